@@ -1,0 +1,16 @@
+pub mod Lists
+pub mod Floats
+pub mod Entries
+pub mod Keys
+pub mod Likeness
+pub mod Changes
+pub mod Store
+pub mod Sum
+pub mod Channels
+pub mod Reset
+pub mod Table
+pub mod Gates
+pub mod Sheet
+pub mod Numbers
+pub mod Calls
+pub mod Keyless
