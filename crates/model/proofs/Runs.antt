@@ -217,9 +217,9 @@ stated =
 -- ---- the table
 
 with-keys : map (λ r. withKeys (r .size) (r .begins) (r .calls)) runs ≡ stated
-unfolding half quarter eighth unit entriesLeft next afterEach anyWords withKeys sized freshRun paulis loses entry sheetRun Ieee.add Ieee.sub Ieee.mul Ieee.div Ieee.lt Ieee.le Ieee.eq Ieee.ofBits Ieee.toBits Lists.allBelow Lists.wordsBelow Lists.groups Lists.every Lists.some-of Lists.isEmpty Lists.joined Lists.retain Lists.altered Lists.swapRemove Floats.finite Floats.upTo Floats.finiteFromZero Entries.mapRows Entries.wordsOf Entries.entryOf Entries.listed Entries.pastCount Entries.pack Keys.shiftXor Keys.mix Keys.rowMask Keys.pick Keys.xorBelow Keys.maskSum Keys.phaseMask Keys.phaseKey Keys.phaseLossKey Keys.absorb Keys.wordKey Keys.wordKeyOf Keys.phaseKeyOf Keys.storedKey Keys.keyed Likeness.valueAt Likeness.nearAt Likeness.sameRows Likeness.alike Changes.flips Changes.flipsBy Changes.flippedRow Changes.changedBody Changes.flipMasks Changes.masksOf Changes.changedEntry Changes.changedKeyed Store.walk Store.reweighed Store.gained Store.stored-or-dropped Store.settled Store.merge Store.mergeAll Store.mergedSplit Store.testedAll Store.howMany Sums.andThen Sums.mapResult Sums.addedTo Sums.total Sums.dividedBy Sums.normalised Sums.kept Sums.truncated Sums.finished Channels.pauliArms Channels.channelArms Channels.arms Channels.qubits Channels.foldedTo Channels.totalRate Channels.live Channels.branchOf Channels.branchesOf Channels.scaled Channels.noiseSplit Channels.noiseTally Channels.channelled Reset.leavingAt Reset.leftAt Reset.drained Reset.resetSplit Reset.resetTally Sheets.leading Sheets.field Sheets.line Sheets.firstLine Sheets.entryLines Sheets.sheetLines Sheets.sheetText Sheets.sameWords Sheets.valueFrom Sheets.fieldValue Sheets.also Sheets.lineFields Sheets.allSome Sheets.linesFields Sheets.readEntry Sheets.readEntries Sheets.readLines Sheets.readSheet Numbers.firstOf Numbers.sizeSound Numbers.boundsSound Numbers.headerSound Numbers.someNotBelow Numbers.rates Numbers.ratesSound Numbers.weightSound Numbers.fitsIn Numbers.coefSound Numbers.rowSound Numbers.bodySound Numbers.weightsSound Numbers.bodiesSound Numbers.entriesSound Numbers.allZero Calls.argumentTests Calls.tests Calls.unless Calls.act Calls.performed Calls.kindOf Calls.rebuiltEntries Calls.rebuilt Calls.dirtyAfter Calls.wordsAfter Calls.splitBy Calls.testedBy Calls.plainAnswer Calls.accepted Calls.left Calls.step Calls.freshRow Calls.freshEntry Calls.freshEntries Calls.freshTests Calls.sheetTests Calls.sheetBegins Calls.begins Calls.startDirty Calls.startKeyed Calls.leftBy Calls.start Keyless.firstAlike Keyless.keylessStep Keyless.keylessStart
+unfolding half quarter eighth unit entriesLeft next afterEach anyWords withKeys sized freshRun paulis loses entry sheetRun Ieee.add Ieee.sub Ieee.mul Ieee.div Ieee.lt Ieee.le Ieee.eq Ieee.ofBits Ieee.toBits Lists.allBelow Lists.wordsBelow Lists.groups Lists.every Lists.some-of Lists.isEmpty Lists.joined Lists.retain Lists.altered Lists.swapRemove Floats.finite Floats.upTo Floats.finiteFromZero Entries.mapRows Entries.wordsOf Entries.entryOf Entries.listed Entries.pastCount Entries.pack Keys.shiftXor Keys.mix Keys.rowMask Keys.pick Keys.xorBelow Keys.maskSum Keys.phaseMask Keys.phaseKey Keys.phaseLossKey Keys.absorb Keys.wordKey Keys.wordKeyOf Keys.phaseKeyOf Keys.storedKey Keys.keyed Likeness.valueAt Likeness.nearAt Likeness.sameRows Likeness.alike Changes.flips Changes.flipsBy Changes.flippedRow Changes.changedBody Changes.flipMasks Changes.masksOf Changes.changedEntry Changes.changedKeyed Store.walk Store.reweighed Store.gained Store.stored-or-dropped Store.settled Store.merge Store.mergeAll Store.mergedSplit Store.testedAll Store.howMany Sums.andThen Sums.mapResult Sums.addedTo Sums.total Sums.dividedBy Sums.normalised Sums.kept Sums.truncated Sums.finished Channels.pauliArms Channels.channelArms Channels.arms Channels.qubits Channels.foldedTo Channels.totalRate Channels.live Channels.branchOf Channels.branchesOf Channels.scaled Channels.noiseSplit Channels.noiseTally Channels.channelled Reset.leavingAt Reset.leftAt Reset.drained Reset.resetSplit Reset.resetTally Sheets.leading Sheets.field Sheets.line Sheets.firstLine Sheets.entryLines Sheets.sheetLines Sheets.sheetText Sheets.sameWords Sheets.valueFrom Sheets.fieldValue Sheets.also Sheets.lineFields Sheets.allSome Sheets.linesFields Sheets.readEntry Sheets.readEntries Sheets.readLines Sheets.readSheet Numbers.firstOf Numbers.sizeSound Numbers.boundsSound Numbers.headerSound Numbers.someNotBelow Numbers.rates Numbers.ratesSound Numbers.weightSound Numbers.fitsIn Numbers.coefSound Numbers.rowSound Numbers.coefsSound Numbers.rowsSound Numbers.bodySound Numbers.weightsSound Numbers.bodiesSound Numbers.entriesSound Numbers.allZero Calls.argumentTests Calls.tests Calls.unless Calls.act Calls.performed Calls.kindOf Calls.rebuiltEntries Calls.rebuilt Calls.dirtyAfter Calls.wordsAfter Calls.splitBy Calls.testedBy Calls.plainAnswer Calls.accepted Calls.left Calls.step Calls.freshRow Calls.freshEntry Calls.freshEntries Calls.freshTests Calls.sheetTests Calls.sheetBegins Calls.begins Calls.startDirty Calls.startKeyed Calls.leftBy Calls.start Keyless.firstAlike Keyless.keylessStep Keyless.keylessStart
 with-keys = refl
 
 without-keys : map (λ r. withoutKeys (r .size) (r .begins) (r .calls)) runs ≡ stated
-unfolding half quarter eighth unit seenResult listAfter afterEachKeyless begunKeyless withoutKeys sized freshRun paulis loses entry sheetRun Ieee.add Ieee.sub Ieee.mul Ieee.div Ieee.lt Ieee.le Ieee.eq Ieee.ofBits Ieee.toBits Lists.allBelow Lists.wordsBelow Lists.groups Lists.every Lists.some-of Lists.isEmpty Lists.joined Lists.retain Lists.altered Lists.swapRemove Floats.finite Floats.upTo Floats.finiteFromZero Entries.mapRows Entries.wordsOf Entries.entryOf Entries.listed Entries.pastCount Entries.pack Keys.shiftXor Keys.mix Keys.rowMask Keys.pick Keys.xorBelow Keys.maskSum Keys.phaseMask Keys.phaseKey Keys.phaseLossKey Keys.absorb Keys.wordKey Keys.wordKeyOf Keys.phaseKeyOf Keys.storedKey Keys.keyed Likeness.valueAt Likeness.nearAt Likeness.sameRows Likeness.alike Changes.flips Changes.flipsBy Changes.flippedRow Changes.changedBody Changes.flipMasks Changes.masksOf Changes.changedEntry Changes.changedKeyed Store.walk Store.reweighed Store.gained Store.stored-or-dropped Store.settled Store.merge Store.mergeAll Store.mergedSplit Store.testedAll Store.howMany Sums.andThen Sums.mapResult Sums.addedTo Sums.total Sums.dividedBy Sums.normalised Sums.kept Sums.truncated Sums.finished Channels.pauliArms Channels.channelArms Channels.arms Channels.qubits Channels.foldedTo Channels.totalRate Channels.live Channels.branchOf Channels.branchesOf Channels.scaled Channels.noiseSplit Channels.noiseTally Channels.channelled Reset.leavingAt Reset.leftAt Reset.drained Reset.resetSplit Reset.resetTally Sheets.leading Sheets.field Sheets.line Sheets.firstLine Sheets.entryLines Sheets.sheetLines Sheets.sheetText Sheets.sameWords Sheets.valueFrom Sheets.fieldValue Sheets.also Sheets.lineFields Sheets.allSome Sheets.linesFields Sheets.readEntry Sheets.readEntries Sheets.readLines Sheets.readSheet Numbers.firstOf Numbers.sizeSound Numbers.boundsSound Numbers.headerSound Numbers.someNotBelow Numbers.rates Numbers.ratesSound Numbers.weightSound Numbers.fitsIn Numbers.coefSound Numbers.rowSound Numbers.bodySound Numbers.weightsSound Numbers.bodiesSound Numbers.entriesSound Numbers.allZero Calls.argumentTests Calls.tests Calls.unless Calls.act Calls.performed Calls.kindOf Calls.rebuiltEntries Calls.rebuilt Calls.dirtyAfter Calls.wordsAfter Calls.splitBy Calls.testedBy Calls.plainAnswer Calls.accepted Calls.left Calls.step Calls.freshRow Calls.freshEntry Calls.freshEntries Calls.freshTests Calls.sheetTests Calls.sheetBegins Calls.begins Calls.startDirty Calls.startKeyed Calls.leftBy Calls.start Keyless.firstAlike Keyless.keylessStep Keyless.keylessStart
+unfolding half quarter eighth unit seenResult listAfter afterEachKeyless begunKeyless withoutKeys sized freshRun paulis loses entry sheetRun Ieee.add Ieee.sub Ieee.mul Ieee.div Ieee.lt Ieee.le Ieee.eq Ieee.ofBits Ieee.toBits Lists.allBelow Lists.wordsBelow Lists.groups Lists.every Lists.some-of Lists.isEmpty Lists.joined Lists.retain Lists.altered Lists.swapRemove Floats.finite Floats.upTo Floats.finiteFromZero Entries.mapRows Entries.wordsOf Entries.entryOf Entries.listed Entries.pastCount Entries.pack Keys.shiftXor Keys.mix Keys.rowMask Keys.pick Keys.xorBelow Keys.maskSum Keys.phaseMask Keys.phaseKey Keys.phaseLossKey Keys.absorb Keys.wordKey Keys.wordKeyOf Keys.phaseKeyOf Keys.storedKey Keys.keyed Likeness.valueAt Likeness.nearAt Likeness.sameRows Likeness.alike Changes.flips Changes.flipsBy Changes.flippedRow Changes.changedBody Changes.flipMasks Changes.masksOf Changes.changedEntry Changes.changedKeyed Store.walk Store.reweighed Store.gained Store.stored-or-dropped Store.settled Store.merge Store.mergeAll Store.mergedSplit Store.testedAll Store.howMany Sums.andThen Sums.mapResult Sums.addedTo Sums.total Sums.dividedBy Sums.normalised Sums.kept Sums.truncated Sums.finished Channels.pauliArms Channels.channelArms Channels.arms Channels.qubits Channels.foldedTo Channels.totalRate Channels.live Channels.branchOf Channels.branchesOf Channels.scaled Channels.noiseSplit Channels.noiseTally Channels.channelled Reset.leavingAt Reset.leftAt Reset.drained Reset.resetSplit Reset.resetTally Sheets.leading Sheets.field Sheets.line Sheets.firstLine Sheets.entryLines Sheets.sheetLines Sheets.sheetText Sheets.sameWords Sheets.valueFrom Sheets.fieldValue Sheets.also Sheets.lineFields Sheets.allSome Sheets.linesFields Sheets.readEntry Sheets.readEntries Sheets.readLines Sheets.readSheet Numbers.firstOf Numbers.sizeSound Numbers.boundsSound Numbers.headerSound Numbers.someNotBelow Numbers.rates Numbers.ratesSound Numbers.weightSound Numbers.fitsIn Numbers.coefSound Numbers.rowSound Numbers.coefsSound Numbers.rowsSound Numbers.bodySound Numbers.weightsSound Numbers.bodiesSound Numbers.entriesSound Numbers.allZero Calls.argumentTests Calls.tests Calls.unless Calls.act Calls.performed Calls.kindOf Calls.rebuiltEntries Calls.rebuilt Calls.dirtyAfter Calls.wordsAfter Calls.splitBy Calls.testedBy Calls.plainAnswer Calls.accepted Calls.left Calls.step Calls.freshRow Calls.freshEntry Calls.freshEntries Calls.freshTests Calls.sheetTests Calls.sheetBegins Calls.begins Calls.startDirty Calls.startKeyed Calls.leftBy Calls.start Keyless.firstAlike Keyless.keylessStep Keyless.keylessStart
 without-keys = refl

@@ -199,6 +199,10 @@ pub record Left : Type 0 where
   pub words : List ℕ
   pub output : List ℕ
 
+-- what a call gave that has no output slice
+abbrev pub gave : Answer → List ℕ → Left
+gave r w = record { answer = r; words = w; output = [] }
+
 -- a header and a number, and 0 for every other number: what a refusal comes with
 unfoldable pub plainAnswer : Header → ℕ → Answer
 plainAnswer h n =

@@ -1,6 +1,8 @@
-// What the language leaves out of 64-bit words: a float and its bits, total both ways, and products modulo 2^64.
+// What the language leaves out of 64-bit words: a float and its bits, total both ways; products modulo 2^64; stretches of
+// one length, one after the other.
 ghost use mathlib.Core.Path.{_≡_};
-ghost use Prim.Native.Nat.{_*_, _%_, _^_};
+ghost use Prim.Native.Nat.{_+_, _*_, _%_, _^_, _≤_};
+ghost use lib.ListN.{length, take, drop};
 ghost use lib.Ieee.{binary64, toBits, ofBits};
 
 // The float of a pattern. Every NaN pattern is the one NaN.
@@ -35,4 +37,14 @@ pub fn wrapping_mul(a: u64, b: u64) -> u64
     let low = a0 * b0;
     let cross = a1 * b0 % 0x1_0000_0000 + a0 * b1 % 0x1_0000_0000;
     std::num::wrapping_add_u64(low, cross % 0x1_0000_0000 * 0x1_0000_0000)
+}
+
+// Stretch i of a slice that is cut into stretches of `len` words.
+pub fn stretch(words: &[u64], len: usize, i: usize) -> &[u64]
+    requires { ⌜ i * len + len ≤ length (now words) ⌝ }
+    ensures { λ r. ⌜ now r ≡ take len (drop (i * len) (now (words .entry))) ⌝ }
+{
+    let at = i * len;
+    let end = at + len;
+    &words[at..end]
 }

@@ -1,0 +1,60 @@
+-- What Paulis flip: each flips a row or not, so the masks of what Y flips, or of what two Paulis flip, are the XOR of two sums of masks.
+-- Assumes nothing.
+use mathlib.Core.Path.{_≡_, sym, ap₂, _∙_}
+use mathlib.Core.List.{List}
+use Prim.Native.Nat.{ℕ, _*_, _<_}
+use native.Mathlib.Omega.{arith}
+use lib.Bits.{bitXor, xor-comm, xor-lt}
+use Rattle.model.specs.Entries.{Row, rowAt, xAt, zAt}
+use Rattle.model.specs.Keys.{bit, maskSum, xBit, zBit}
+use Rattle.model.specs.Changes.{flips, flipsBy, flipMasks}
+use Rattle.model.specs.declared.BranchMutation.the-variants.{Pauli as pauli, Pair as pair}
+use Rattle.model.specs.declared.Pauli.{Pauli}
+use Rattle.model.specs.declared.Pauli.the-variants.{I, X, Y, Z}
+use Rattle.model.specs.declared.Salts.{Salts}
+use Rattle.keys.specs.Deltas.{DeltasAt, deltaOf}
+use Rattle.keys.specs.declared.Deltas.{Deltas}
+use Rattle.keys.proofs.Picks.{bit-lt}
+use Rattle.keys.proofs.Sums.{maskSum-clear, maskSum-xor}
+
+pub flips-lt : (p : Pauli) (q : ℕ) (r : Row) → flips p q r < 2
+unfolding flips
+flips-lt I q r = omega arith
+flips-lt X q r = bit-lt q (r .z)
+flips-lt Y q r = xor-lt 1 (bit q (r .x)) (bit q (r .z)) (bit-lt q (r .x)) (bit-lt q (r .z))
+flips-lt Z q r = bit-lt q (r .x)
+
+module _ (s : Salts) (n : ℕ) (rows : List ℕ) where
+  -- of two Paulis: the masks of the first XOR those of the second
+  pub pair-masks : (p : Pauli) (a : ℕ) (o : Pauli) (b : ℕ)
+      → flipMasks s n (pair p a o b) rows ≡ bitXor (flipMasks s n (pauli p a) rows) (flipMasks s n (pauli o b) rows)
+  unfolding flipMasks flipsBy
+  pair-masks p a o b =
+      maskSum-xor (s .sign) (2 * n) (λ r. flips p a (rowAt rows r)) (λ r. flips o b (rowAt rows r)) (λ r. flips-lt p a (rowAt rows r))
+      (λ r. flips-lt o b (rowAt rows r))
+
+  module _ (q : ℕ) where
+    -- I flips nothing
+    pub i-masks : flipMasks s n (pauli I q) rows ≡ 0
+    unfolding flipMasks flipsBy flips
+    i-masks = maskSum-clear (s .sign) (2 * n)
+
+    -- X flips the rows with z set at q, Z those with x, Y those that X or Z flips and not both
+    pub deltas-at : {dx dz : ℕ} → dx ≡ maskSum (s .sign) (2 * n) (zBit rows q) → dz ≡ maskSum (s .sign) (2 * n) (xBit rows q)
+        → DeltasAt s n rows q (record { x = dx; y = bitXor dx dz; z = dz })
+    unfolding flipMasks flipsBy flips
+    deltas-at {dx} {dz} ex ez =
+        record {
+          x = ex;
+          y =
+              xor-comm dx dz ∙ ap₂ bitXor ez ex
+              ∙ sym (maskSum-xor (s .sign) (2 * n) (xBit rows q) (zBit rows q) (λ r. bit-lt q (xAt rows r)) (λ r. bit-lt q (zAt rows r)));
+          z = ez;
+        }
+
+    -- what is taken out for a Pauli is its masks
+    pub delta-masks : (d : Deltas) → DeltasAt s n rows q d → (p : Pauli) → deltaOf d p ≡ flipMasks s n (pauli p q) rows
+    delta-masks d h I = sym i-masks
+    delta-masks d h X = h .x
+    delta-masks d h Y = h .y
+    delta-masks d h Z = h .z

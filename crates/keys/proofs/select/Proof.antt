@@ -1,0 +1,13 @@
+-- `keys::select` meets its contract: a bit that is not 0 selects m. Assumes nothing.
+use Rattle.keys.proofs.Picks.{pick-clear, pick-set}
+use Rattle.keys.proofs.select.Statement.{statement}
+use Rattle.keys.proofs.select.Tie as tie
+
+returns : tie.Need-returns
+returns c = pick-clear _ _ (c .if1 .taken)
+
+returns-2 : tie.Need-returns-2
+returns-2 c = pick-set _ _ (c .if1 .left)
+
+pub select-spec : {M : Type 1} → statement M
+select-spec = tie.close (tie.spec returns returns-2)

@@ -1,0 +1,250 @@
+// Masks and keys (document 01, point 1), and by how much a Pauli or a loss changes them. Rows are words (x, z, phase), 2n of them.
+ghost use mathlib.Core.Path.{_≡_};
+ghost use Prim.Native.Nat.{_+_, _*_, _^_, _≤_, _<_};
+ghost use lib.Bits.{bitXor};
+ghost use lib.ListN.{length};
+ghost use Rattle.model.specs.Entries.{xAt, zAt, phaseAt};
+ghost use Rattle.model.specs.Keys.{usualSalts, mix, rowMask, bit, pick, xBit, zBit, maskSum, phaseMask, phaseKey, phaseLossKey, absorb, wordKey};
+ghost use Rattle.model.specs.Changes.{flipMasks, masksOf};
+ghost use Rattle.model.specs.declared.BranchMutation.the-variants.{Pauli as pauli};
+ghost use Rattle.keys.specs.Deltas.{DeltasAt, deltaOf};
+ghost use Rattle.keys.specs.Qubits.{QubitsBelow};
+use model::BranchMutation;
+use model::Pauli;
+use model::Salts;
+
+const GOLDEN: u64 = 0x9E37_79B9_7F4A_7C15;
+
+// ---- masks
+
+// The salts of document 01: one byte repeated eight times.
+pub fn usual_salts() -> Salts
+    ensures { λ r. ⌜ r ≡ usualSalts ⌝ }
+{
+    Salts {
+        sign: 0xA1A1_A1A1_A1A1_A1A1,
+        imag: 0xB2B2_B2B2_B2B2_B2B2,
+        loss: 0xC3C3_C3C3_C3C3_C3C3,
+    }
+}
+
+// SplitMix64's finalizer.
+pub fn finalize(z: u64) -> u64
+    ensures { λ r. ⌜ r ≡ mix z ⌝ }
+{
+    let a = words::wrapping_mul(z ^ (z >> 30), 0xBF58_476D_1CE4_E5B9);
+    let b = words::wrapping_mul(a ^ (a >> 27), 0x94D0_49BB_1331_11EB);
+    b ^ (b >> 31)
+}
+
+// The mask of a row, or of a qubit, under a salt.
+pub fn row_mask(index: usize, salt: u64) -> u64
+    ensures { λ r. ⌜ r ≡ rowMask index salt ⌝ }
+{
+    finalize(std::num::wrapping_add_u64(words::wrapping_mul(index as u64, GOLDEN), salt))
+}
+
+// sign(row).
+pub fn sign_mask(salts: Salts, row: usize) -> u64
+    ensures { λ r. ⌜ r ≡ rowMask row (salts .sign) ⌝ }
+{
+    row_mask(row, salts.sign)
+}
+
+// imag(row).
+pub fn imag_mask(salts: Salts, row: usize) -> u64
+    ensures { λ r. ⌜ r ≡ rowMask row (salts .imag) ⌝ }
+{
+    row_mask(row, salts.imag)
+}
+
+// loss(q).
+pub fn loss_mask(salts: Salts, q: usize) -> u64
+    ensures { λ r. ⌜ r ≡ rowMask q (salts .loss) ⌝ }
+{
+    row_mask(q, salts.loss)
+}
+
+// ---- the word key
+
+// h with one more word.
+pub fn absorb_word(h: u64, w: u64) -> u64
+    ensures { λ r. ⌜ r ≡ absorb h w ⌝ }
+{
+    finalize(std::num::wrapping_add_u64(h, GOLDEN) ^ w)
+}
+
+// The word key of 2n rows: for each row, x then z.
+pub fn word_key(rows: &[u64], n: usize) -> u64
+    requires { ⌜ (n ≤ 64) × (3 * (2 * n) ≤ length (now rows)) ⌝ }
+    ensures { λ r. ⌜ r ≡ wordKey (2 * n) (xAt (now (rows .entry))) (zAt (now (rows .entry))) ⌝ }
+{
+    let m = 2 * n;
+    let mut h: u64 = 0;
+    let mut i: usize = 0;
+    while i < m {
+        let x = rows[3 * i];
+        let z = rows[3 * i + 1];
+        h = absorb_word(absorb_word(h, x), z);
+        i += 1;
+    }
+    h
+}
+
+// ---- the phase-loss key
+
+// The mask of an index under a salt if the bit is 1, else 0.
+pub fn masked(b: u64, index: usize, salt: u64) -> u64
+    ensures { λ r. ⌜ r ≡ pick b (rowMask index salt) ⌝ }
+{
+    if b == 0 { 0 } else { row_mask(index, salt) }
+}
+
+// imag(row) where phase bit 0 is set, sign(row) where bit 1 is set.
+pub fn phase_mask(salts: Salts, row: usize, phase: u64) -> u64
+    ensures { λ r. ⌜ r ≡ phaseMask salts row phase ⌝ }
+{
+    masked(phase % 2, row, salts.imag) ^ masked((phase >> 1) % 2, row, salts.sign)
+}
+
+// The XOR of the phase masks of m rows.
+pub fn phase_key(salts: Salts, m: usize, rows: &[u64]) -> u64
+    requires { ⌜ 3 * m ≤ length (now rows) ⌝ }
+    ensures { λ r. ⌜ r ≡ phaseKey salts m (phaseAt (now (rows .entry))) ⌝ }
+{
+    let mut h: u64 = 0;
+    let mut i: usize = 0;
+    while i < m {
+        h = h ^ phase_mask(salts, i, rows[3 * i + 2]);
+        i += 1;
+    }
+    h
+}
+
+// The XOR of the loss masks of the lost qubits of n.
+pub fn loss_key(salts: Salts, n: usize, loss: u64) -> u64
+    requires { ⌜ n ≤ 64 ⌝ }
+    ensures { λ r. ⌜ r ≡ maskSum (salts .loss) n (λ q. bit q loss) ⌝ }
+{
+    let mut h: u64 = 0;
+    let mut q: usize = 0;
+    while q < n {
+        h = h ^ masked((loss >> q) % 2, q, salts.loss);
+        q += 1;
+    }
+    h
+}
+
+// The phase-loss key of an entry on n qubits: of its 2n rows and its loss word.
+pub fn phase_loss_key(salts: Salts, n: usize, rows: &[u64], loss: u64) -> u64
+    requires { ⌜ (n ≤ 64) × (3 * (2 * n) ≤ length (now rows)) ⌝ }
+    ensures { λ r. ⌜ r ≡ phaseLossKey salts n (phaseAt (now (rows .entry))) (λ q. bit q loss) ⌝ }
+{
+    phase_key(salts, 2 * n, rows) ^ loss_key(salts, n, loss)
+}
+
+// The full key: word key XOR phase-loss key.
+pub fn full_key(salts: Salts, n: usize, rows: &[u64], loss: u64) -> u64
+    requires { ⌜ (n ≤ 64) × (3 * (2 * n) ≤ length (now rows)) ⌝ }
+    ensures { λ r. ⌜ r ≡ bitXor (wordKey (2 * n) (xAt (now (rows .entry))) (zAt (now (rows .entry)))) (phaseLossKey salts n (phaseAt (now (rows .entry))) (λ q. bit q loss)) ⌝ }
+{
+    word_key(rows, n) ^ phase_loss_key(salts, n, rows, loss)
+}
+
+// ---- what a change to an entry changes of its phase-loss key
+
+// By how much X, Y and Z at a qubit change the phase-loss key. I changes nothing.
+pub struct Deltas {
+    pub x: u64,
+    pub y: u64,
+    pub z: u64,
+}
+
+// m if the bit is 1, else 0.
+pub fn select(b: u64, m: u64) -> u64
+    ensures { λ r. ⌜ r ≡ pick b m ⌝ }
+{
+    if b == 0 { 0 } else { m }
+}
+
+// x of row i at qubit q.
+pub fn x_bit(rows: &[u64], i: usize, q: usize) -> u64
+    requires { ⌜ (3 * i < length (now rows)) × (q < 64) ⌝ }
+    ensures { λ r. ⌜ r ≡ xBit (now (rows .entry)) q i ⌝ }
+{
+    (rows[3 * i] >> q) % 2
+}
+
+// z of row i at qubit q.
+pub fn z_bit(rows: &[u64], i: usize, q: usize) -> u64
+    requires { ⌜ (3 * i + 1 < length (now rows)) × (q < 64) ⌝ }
+    ensures { λ r. ⌜ r ≡ zBit (now (rows .entry)) q i ⌝ }
+{
+    (rows[3 * i + 1] >> q) % 2
+}
+
+// In one pass: X flips the rows with z set at q, Z those with x. What Y flips, X or Z flips and not both.
+pub fn pauli_deltas(salts: Salts, n: usize, rows: &[u64], q: usize) -> Deltas
+    requires { ⌜ (q < 64) × (n ≤ 64) × (3 * (2 * n) ≤ length (now rows)) ⌝ }
+    ensures { λ r. ⌜ DeltasAt salts n (now (rows .entry)) q r ⌝ }
+{
+    let m = 2 * n;
+    let mut dx: u64 = 0;
+    let mut dz: u64 = 0;
+    let mut i: usize = 0;
+    while i < m {
+        let mask = sign_mask(salts, i);
+        dz = dz ^ select(x_bit(rows, i, q), mask);
+        dx = dx ^ select(z_bit(rows, i, q), mask);
+        i += 1;
+    }
+    Deltas {
+        x: dx,
+        y: dx ^ dz,
+        z: dz,
+    }
+}
+
+// The delta of one Pauli; that of I is 0.
+pub fn delta_of(d: Deltas, p: Pauli) -> u64
+    ensures { λ r. ⌜ r ≡ deltaOf d p ⌝ }
+{
+    match p {
+        Pauli::I => 0,
+        Pauli::X => d.x,
+        Pauli::Y => d.y,
+        Pauli::Z => d.z,
+    }
+}
+
+// The masks of the rows that one Pauli at qubit q flips.
+pub fn pauli_delta(salts: Salts, n: usize, rows: &[u64], p: Pauli, q: usize) -> u64
+    requires { ⌜ (q < 64) × (n ≤ 64) × (3 * (2 * n) ≤ length (now rows)) ⌝ }
+    ensures { λ r. ⌜ r ≡ flipMasks salts n (pauli p q) (now (rows .entry)) ⌝ }
+{
+    delta_of(pauli_deltas(salts, n, rows, q), p)
+}
+
+// The masks of what a branch changes of its parent.
+pub fn mutation_delta(salts: Salts, n: usize, rows: &[u64], m: BranchMutation) -> u64
+    requires { ⌜ (n ≤ 64) × (3 * (2 * n) ≤ length (now rows)) × QubitsBelow 64 m ⌝ }
+    ensures { λ r. ⌜ r ≡ masksOf salts n m (now (rows .entry)) ⌝ }
+{
+    match m {
+        BranchMutation::Pauli(p, q) => pauli_delta(salts, n, rows, p, q),
+        BranchMutation::Pair(p, a, o, b) => {
+            let first = pauli_delta(salts, n, rows, p, a);
+            let second = pauli_delta(salts, n, rows, o, b);
+            first ^ second
+        }
+        BranchMutation::Loss(q) => loss_mask(salts, q),
+    }
+}
+
+// The loss word with qubit q lost if it was live, and live if it was lost.
+pub fn toggle_loss(loss: u64, q: usize) -> u64
+    requires { ⌜ q < 64 ⌝ }
+    ensures { λ r. ⌜ r ≡ bitXor loss (2 ^ q) ⌝ }
+{
+    loss ^ (1 << q)
+}

@@ -1,0 +1,4 @@
+pub mod AllBelow
+pub mod Value
+pub mod EntryWords
+pub mod Alike
