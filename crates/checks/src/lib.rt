@@ -13,6 +13,7 @@ ghost use Rattle.model.specs.Entries.{entryLen, headLen, coefsLen, rowsLen, row
 ghost use Rattle.model.specs.Numbers as Numbers;
 ghost use Rattle.model.specs.Lists.{allBelow};
 ghost use Rattle.model.specs.Calls.{held, shape, padded, plainAnswer, zeroHeader};
+ghost use Rattle.checks.specs.Answers.{lookedAnswer};
 ghost use Rattle.checks.specs.Sized.{Within, entrySound};
 
 // ---- answers
@@ -32,6 +33,24 @@ pub fn plain_answer(header: Header, number: u64) -> Answer
         },
         place: 0,
         length: 0,
+    }
+}
+
+// What an accepted call that changes nothing gives.
+pub fn looked_answer(header: Header, place: usize, length: usize) -> Answer
+    ensures { λ r. ⌜ r ≡ lookedAnswer header place length ⌝ }
+{
+    Answer {
+        number: 0,
+        header,
+        counts: Counts {
+            merged: 0,
+            stored: 0,
+            dropped: 0,
+            compared: 0,
+        },
+        place,
+        length,
     }
 }
 

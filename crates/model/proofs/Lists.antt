@@ -74,6 +74,12 @@ module _ {X : Type 0} (p : X → Bool) where
   every-end (x ∷ xs) zero h = absurd (not-suc-le-zero h)
   every-end (x ∷ xs) (suc i) h = every-end xs i (le-of-suc-le-suc h)
 
+  pub every-at : (l : List X) (i : ℕ) (d : X) → every p l ≡ true → i < length l → p (getD l i d) ≡ true
+  unfolding every
+  every-at [] i d e h = absurd (not-suc-le-zero h)
+  every-at (x ∷ xs) zero d e h = and-both (p x) (every p xs) e .0
+  every-at (x ∷ xs) (suc i) d e h = every-at xs i d (and-both (p x) (every p xs) e .1) (le-of-suc-le-suc h)
+
 -- two tests of every element are one
 pub every-both : {X : Type 0} (p q : X → Bool) (l : List X) → (every p l && every q l) ≡ every (λ x. p x && q x) l
 unfolding every

@@ -9,7 +9,7 @@ use native.Mathlib.Omega.{arith}
 use lib.Dec.{eqb}
 use lib.ListN.{length, take, drop, getD, set, length-append, length-take, length-drop, length-set, drop-of-length-le}
 use lib.Seq.{take-at, length-take-le, drop-cons, take-suc-set, append-snoc, drop-set-lt, drop-set-add, take-all}
-use borrow.Rule.Slice.PartMut.{putMid, mid-len, same-len-mid}
+use borrow.Rule.Slice.PartMut.{putMid, midOf, mid-len, same-len-mid}
 use borrow.Author.Tests.{eq-eqb, ne-eqb}
 use Rattle.model.specs.Lists.{groups, joined}
 use Rattle.model.specs.Sheet.{blank, lineEnd, digit, columns, leading, field, line, lineLen}
@@ -38,6 +38,60 @@ joined-next f l j d h = ap (λ x. joined (map f x)) (drop-cons l j d h) ∙ ap (
 pub joined-end : {X : Type 0} (f : X → List ℕ) (l : List X) (j : ℕ) → length l ≤ j → joined (map f (drop j l)) ≡ []
 unfolding joined
 joined-end f l j h = ap (λ x. joined (map f x)) (drop-of-length-le l {i = j} h)
+
+-- a slice that was wholly written by two pieces, one after the other
+module _ (out x y : List ℕ) (a : ℕ) (q : a ≤ length out) (kx : length x ≡ length (midOf 0 (a - 0) out))
+    (ky : length y ≡ length (midOf a (length (putMid 0 (a - 0) out x) - a) (putMid 0 (a - 0) out x))) where
+  abbrev once : List ℕ
+  once = putMid 0 (a - 0) out x
+
+  once-length : length once ≡ length out
+  once-length = same-len-mid 0 (a - 0) out x kx
+
+  pub two-length : length (putMid a (length once - a) once y) ≡ length out
+  two-length = same-len-mid a (length once - a) once y ky ∙ once-length
+
+  pub two-pieces : putMid a (length once - a) once y ≡ x ++ y
+  two-pieces =
+      let e = once-length in
+      let f = two-length in
+      sym (take-all (length once) (putMid a (length once - a) once y) (omega arith))
+      ∙ wrote a (length once) once y (omega arith) (omega arith) (ky ∙ mid-len a (length once) once (omega arith))
+      ∙ ap (λ (l : List ℕ). l ++ y) (wrote 0 a out x (omega arith) q (kx ∙ mid-len 0 a out q))
+
+-- a slice that was wholly written by three pieces, one after the other
+module _ (out x y z : List ℕ) (a b : ℕ) where
+  abbrev pub first-in : List ℕ
+  first-in = putMid 0 (a - 0) out x
+
+  abbrev pub second-in : List ℕ
+  second-in = putMid a (b - a) first-in y
+
+  abbrev pub third-in : List ℕ
+  third-in = putMid b (length second-in - b) second-in z
+
+  -- each piece as long as the part it was lent
+  module _ (p : a ≤ b) (q : b ≤ length out) (kx : length x ≡ length (midOf 0 (a - 0) out)) (ky : length y ≡ length (midOf a (b - a) first-in)) (kz : length z ≡ length (midOf b (length second-in - b) second-in)) where
+    first-length : length first-in ≡ length out
+    first-length = same-len-mid 0 (a - 0) out x kx
+
+    second-length : length second-in ≡ length out
+    second-length = same-len-mid a (b - a) first-in y ky ∙ first-length
+
+    pub third-length : length third-in ≡ length out
+    third-length = same-len-mid b (length second-in - b) second-in z kz ∙ second-length
+
+    pub three-pieces : third-in ≡ x ++ (y ++ z)
+    three-pieces =
+        let e = first-length in
+        let f = second-length in
+        let g = third-length in
+        sym (take-all (length second-in) third-in (omega arith))
+        ∙ wrote b (length second-in) second-in z (omega arith) (omega arith) (kz ∙ mid-len b (length second-in) second-in (omega arith))
+        ∙ ap (λ (l : List ℕ). l ++ z)
+        (wrote a b first-in y p (omega arith) (ky ∙ mid-len a b first-in (omega arith))
+        ∙ ap (λ (l : List ℕ). l ++ y) (wrote 0 a out x (omega arith) (omega arith) (kx ∙ mid-len 0 a out (omega arith))))
+        ∙ append-assoc x y z
 
 -- ---- lengths
 

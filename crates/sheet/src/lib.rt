@@ -5,12 +5,13 @@ use model::Size;
 ghost use mathlib.Core.Path.{_≡_};
 ghost use mathlib.Core.List.{map};
 ghost use Prim.Native.Nat.{_+_, _*_, _≤_};
-ghost use lib.ListN.{length};
+ghost use lib.ListN.{length, getD};
 ghost use Rattle.model.specs.Lists.{groups, joined};
-ghost use Rattle.model.specs.Entries.{coefsLen, entryLen, entryOf, strip};
-ghost use Rattle.model.specs.Sheet.{columns, field, line, lineLen, entryLines};
+ghost use Rattle.model.specs.Entries.{entryLen, entryOf, strip, listed};
+ghost use Rattle.model.specs.Sheet.{columns, field, line, lineLen, sheetText};
 ghost use Rattle.model.specs.Calls as Calls;
 ghost use Rattle.checks.specs.Sized.{Within};
+ghost use Rattle.sheet.specs.Text.{entryText, entriesText, Counted, Sound, sheetOn};
 
 // ---- fields and lines
 
@@ -62,4 +63,120 @@ pub fn put_lines(out: &mut [u8], words: &[u64], m: usize)
         at = end;
         i += 1;
     }
+}
+
+// ---- entries
+
+// The bytes of an entry's lines: its own, one for each of `count` coefficients, one a row.
+pub fn entry_text_len(size: Size, count: u64) -> usize
+    requires { ⌜ Within size × (count ≤ size .k) ⌝ }
+    ensures { λ r. ⌜ r ≡ (1 + count + 2 * size .n) * lineLen 3 ⌝ }
+{
+    let n = size.n;
+    (1 + count as usize + 2 * n) * 64
+}
+
+// An entry's lines.
+pub fn put_entry(out: &mut [u8], e: &[u64], size: Size)
+    requires { ⌜ Within size × (length (now e) ≡ entryLen size) × (getD (now e) 4 0 ≤ size .k) ⌝ }
+    requires { ⌜ length (now out) ≡ (1 + getD (now e) 4 0 + 2 * size .n) * lineLen 3 ⌝ }
+    ensures { λ _. ⌜ now (out .exit) ≡ entryText (size .n) (strip (entryOf size (now (e .entry)))) ⌝ }
+{
+    let n = size.n;
+    let rows = 5 + 3 * size.k;
+    let count = e[4] as usize;
+    let coefs_end = 64 + 64 * count;
+    let head = [e[0], e[1], e[4]];
+    put_line(&mut out[0..64], &head);
+    put_lines(&mut out[64..coefs_end], &e[5..rows], count);
+    put_lines(&mut out[coefs_end..], &e[rows..], 2 * n);
+}
+
+// The bytes of the lines of all listed entries.
+pub fn entries_text_len(store: &[u64], size: Size, count: usize) -> usize
+    requires { ⌜ Within size × (count ≤ 256) × (count * entryLen size ≤ length (now store)) ⌝ }
+    requires { ⌜ Counted size (map strip (listed size count (now store))) ⌝ }
+    ensures { λ r. ⌜ (r ≡ length (entriesText (size .n) (map strip (listed size count (now (store .entry)))))) × (r ≤ 256 * 12352) ⌝ }
+{
+    let len = checks::entry_len(size);
+    let mut t = 0;
+    let mut i = 0;
+    while i < count {
+        let e = words::stretch(store, len, i);
+        t = t + entry_text_len(size, e[4]);
+        i += 1;
+    }
+    t
+}
+
+// The lines of all listed entries.
+pub fn put_entries(out: &mut [u8], store: &[u64], size: Size, count: usize)
+    requires { ⌜ Within size × (count ≤ 256) × (count * entryLen size ≤ length (now store)) ⌝ }
+    requires { ⌜ Counted size (map strip (listed size count (now store))) ⌝ }
+    requires { ⌜ length (now out) ≡ length (entriesText (size .n) (map strip (listed size count (now store)))) ⌝ }
+    ensures { λ _. ⌜ now (out .exit) ≡ entriesText (size .n) (map strip (listed size count (now (store .entry)))) ⌝ }
+{
+    let len = checks::entry_len(size);
+    let mut at = 0;
+    let mut i = 0;
+    while i < count {
+        let e = words::stretch(store, len, i);
+        let end = at + entry_text_len(size, e[4]);
+        put_entry(&mut out[at..end], e, size);
+        at = end;
+        i += 1;
+    }
+}
+
+// ---- the sheet
+
+// The bytes of a sound sum's sheet.
+pub fn sheet_len(h: Header, store: &[u64]) -> usize
+    requires { ⌜ Sound h (now store) ⌝ }
+    ensures { λ r. ⌜ r ≡ length (sheetText (sheetOn h (now (store .entry)))) ⌝ }
+{
+    let size = h.size;
+    127 + entries_text_len(store, size, h.count)
+}
+
+// A sound sum's sheet.
+pub fn put_sheet(out: &mut [u8], h: Header, store: &[u64])
+    requires { ⌜ Sound h (now store) ⌝ }
+    requires { ⌜ length (now out) ≡ length (sheetText (sheetOn h (now store))) ⌝ }
+    ensures { λ _. ⌜ now (out .exit) ≡ sheetText (sheetOn h (now (store .entry))) ⌝ }
+{
+    let size = h.size;
+    let count = h.count;
+    let threshold = words::bits_of(h.threshold);
+    let cutoff = words::bits_of(h.cutoff);
+    let first = [
+        size.n as u64,
+        size.k as u64,
+        size.capacity as u64,
+        count as u64,
+        threshold,
+        cutoff,
+    ];
+    put_line(&mut out[0..127], &first);
+    put_entries(&mut out[127..], store, size, count);
+}
+
+// THE CALL: the sum's sheet at the start of `out`, what stands past it unchanged. 1, 2, 5, 8.
+pub fn write_sheet(h: Header, store: &[u64], out: &mut [u8]) -> Answer
+    ensures answer { λ r. ⌜ r ≡ Calls.step (Calls.sheet (length (now (out .entry)))) (Calls.held h (now (store .entry))) .answer ⌝ }
+    ensures output { λ _. ⌜ now (out .exit) ≡ Calls.over (Calls.step (Calls.sheet (length (now (out .entry)))) (Calls.held h (now (store .entry))) .output) (now (out .entry)) ⌝ }
+{
+    let number = checks::shape_number(h, store);
+    if number != 0 {
+        return checks::plain_answer(h, number);
+    }
+    if checks::words_sound(h, store) {
+        let length = sheet_len(h, store);
+        if out.len() < length {
+            return checks::plain_answer(h, 8);
+        }
+        put_sheet(&mut out[0..length], h, store);
+        return checks::looked_answer(h, 0, length);
+    }
+    checks::plain_answer(h, 5)
 }
