@@ -4,5 +4,4 @@ pub mod Flips
 pub mod Rows
 pub mod Qubits
 pub mod Changed
-pub mod Tests
 pub mod LikeKeys

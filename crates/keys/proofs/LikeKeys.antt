@@ -10,29 +10,28 @@ use lib.ListN.{getD}
 use borrow.Author.Tests.{eqb-true}
 use Rattle.model.specs.Entries.{Body, rowsLen, phaseAt}
 use Rattle.model.specs.Keys.{bit, phaseLossKey, maskSum, wordKeyOf, phaseKeyOf, fullKeyOf}
-use Rattle.model.specs.Likeness.{sameRows, alike}
 use Rattle.model.specs.declared.Salts.{Salts}
 use Rattle.model.specs.declared.Size.{Size}
-use Rattle.keys.proofs.Tests.{and-left, and-right, all-below}
+use Rattle.model.specs.Lists.{allBelow}
+use Rattle.model.specs.Likeness.{square, nearAt, sameRows, alike}
+use Rattle.model.proofs.Lists.{and-both, all-at}
 use Rattle.keys.proofs.Sums.{phaseKey-ext, wordKey-ext}
 
 module _ (s : Size) (threshold : Float) (a b : Body) (like : alike s threshold a b ≡ true) where
-  -- the loss word, and the words of the rows, are tested to be the same
-  loss-tested : eqb (a .loss) (b .loss) ≡ true
+  -- its four tests, of which the first three say that loss word, count and rows are the same
+  same : ((eqb (a .loss) (b .loss) && eqb (a .count) (b .count)) ≡ true) × (sameRows s a b ≡ true)
   unfolding alike
-  loss-tested = and-left _ (eqb (a .count) (b .count)) (and-left _ (sameRows s a b) (and-left _ _ like))
-
-  rows-tested : sameRows s a b ≡ true
-  unfolding alike
-  rows-tested = and-right (eqb (a .loss) (b .loss) && eqb (a .count) (b .count)) _ (and-left _ _ like)
+  same =
+      and-both (eqb (a .loss) (b .loss) && eqb (a .count) (b .count)) (sameRows s a b)
+      (and-both (eqb (a .loss) (b .loss) && eqb (a .count) (b .count) && sameRows s a b) (allBelow (nearAt (square threshold) a b) (a .count)) like .0)
 
   pub alike-loss : a .loss ≡ b .loss
-  alike-loss = eqb-true (a .loss) (b .loss) loss-tested
+  alike-loss = eqb-true (a .loss) (b .loss) (and-both (eqb (a .loss) (b .loss)) (eqb (a .count) (b .count)) (same .0) .0)
 
   -- every word of the rows is the same
   pub alike-rows : (j : ℕ) → j < rowsLen s → getD (a .rows) j 0 ≡ getD (b .rows) j 0
   unfolding sameRows
-  alike-rows j h = eqb-true _ _ (all-below (λ i. eqb (getD (a .rows) i 0) (getD (b .rows) i 0)) (rowsLen s) rows-tested j h)
+  alike-rows j h = eqb-true _ _ (all-at (λ i. eqb (getD (a .rows) i 0) (getD (b .rows) i 0)) (rowsLen s) j (same .1) h)
 
   pub alike-word-key : wordKeyOf (s .n) a ≡ wordKeyOf (s .n) b
   unfolding wordKeyOf

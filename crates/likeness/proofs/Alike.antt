@@ -11,7 +11,7 @@ use Rattle.model.specs.Lists.{allBelow}
 use Rattle.model.specs.Entries.{Body, rowsLen}
 use Rattle.model.specs.Likeness.{square, nearAt, sameRows, alike}
 use Rattle.model.specs.declared.Size.{Size}
-use Rattle.likeness.proofs.AllBelow.{all-none, all-more, all-not}
+use Rattle.model.proofs.Lists.{all-none, all-more, all-not}
 
 -- word j of two lists of rows is the same
 abbrev pub sameAt : List ℕ → List ℕ → ℕ → Bool

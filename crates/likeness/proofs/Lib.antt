@@ -1,4 +1,2 @@
-pub mod AllBelow
 pub mod Value
-pub mod EntryWords
 pub mod Alike

@@ -2,18 +2,15 @@
 use mathlib.Core.Path.{_≡_, refl, sym, ap, _∙_}
 use mathlib.Core.List.{List, [], _∷_, _++_, map}
 use Prim.Native.Nat.{ℕ, zero, suc, _+_, _*_, _-_, _<_, _≤_}
-use native.Mathlib.Nat.{suc-mul, mul-le-mul-right}
+use native.Mathlib.Nat.{suc-mul, mul-le-mul-right, add-sub-cancel-left}
 use native.Mathlib.Omega.{arith}
 use lib.ListN.{length, take, drop, getD, length-drop, length-map}
-use lib.Seq.{take-all, length-take-le}
+use lib.Seq.{take-all, length-take-le, getD-take, getD-drop}
 use Rattle.model.specs.Lists.{groups}
-use Rattle.model.specs.Entries.{Entry, Keyed, strip, headLen, coefsLen, entryLen, entryOf, stretch, listed}
+use Rattle.model.specs.Entries.{Body, Entry, Keyed, strip, headLen, coefsLen, entryLen, entryOf, stretch, listed}
 use Rattle.model.specs.declared.Size.{Size}
+use Rattle.model.proofs.Groups.{stride-le}
 use Rattle.model.proofs.Lists.{length-groups, group-at, getD-mapped}
-
--- entry i ends within the first n
-pub stride-le : (len i n : ℕ) → i < n → i * len + len ≤ n * len
-stride-le len i n h = omega (arith, mul-le-mul-right len h, suc-mul i len)
 
 module _ (s : Size) where
   pub length-stretch : (w : List ℕ) (i n : ℕ) → n * entryLen s ≤ length w → i < n → length (stretch s w i) ≡ entryLen s
@@ -39,3 +36,22 @@ module _ (s : Size) where
 -- the part of a slice from a to its end, as it is lent
 pub part-tail : (a : ℕ) (w : List ℕ) → take (length w - a) (drop a w) ≡ drop a w
 part-tail a w = take-all (length w - a) (drop a w) (omega (arith, length-drop a w))
+
+-- ---- where an entry's coefficients and rows stand among its words
+
+abbrev pub bodyOf : Size → List ℕ → Body
+bodyOf s w = entryOf s w .entry .body
+
+module _ (s : Size) (w : List ℕ) where
+  pub coef-word : (i : ℕ) → i < coefsLen s → getD (bodyOf s w .coefs) i 0 ≡ getD w (headLen + i) 0
+  unfolding entryOf
+  coef-word i l = rw (getD-take, getD-drop)
+
+  pub row-word : (i : ℕ) → getD (bodyOf s w .rows) i 0 ≡ getD w (headLen + coefsLen s + i) 0
+  unfolding entryOf
+  row-word i = rw getD-drop
+
+  -- the coefficients as they are lent: from the head's end to the rows' start
+  pub coefs-part : bodyOf s w .coefs ≡ take (headLen + coefsLen s - headLen) (drop headLen w)
+  unfolding entryOf
+  coefs-part = rw (add-sub-cancel-left headLen (coefsLen s))

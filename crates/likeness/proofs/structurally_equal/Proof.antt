@@ -11,8 +11,8 @@ use denote.Ref.{now}
 use lib.Seq.{getD-drop}
 use Rattle.model.specs.Lists.{allBelow}
 use Rattle.model.specs.Entries.{entryOf}
-use Rattle.likeness.proofs.AllBelow.{all-none, all-more}
-use Rattle.likeness.proofs.EntryWords.{row-word, coefs-part}
+use Rattle.model.proofs.Lists.{all-none, all-more}
+use Rattle.model.proofs.Entries.{row-word, coefs-part}
 use Rattle.likeness.proofs.Alike.{sameAt, unlike-loss, unlike-count, unlike-row, unlike-value, alike-all, NearBelow, near-none, near-more}
 use Rattle.likeness.proofs.structurally_equal.Statement.{statement}
 use Rattle.likeness.proofs.structurally_equal.Tie as tie
