@@ -1,0 +1,116 @@
+// The calls of document 01. So far: fresh, which begins a sum.
+use model::Answer;
+use model::Header;
+use model::Size;
+ghost use mathlib.Core.Path.{_≡_};
+ghost use Prim.Native.Nat.{_*_, _<_, _≤_};
+ghost use lib.ListN.{length, replicate};
+ghost use Rattle.model.specs.Entries.{entryLen, rowsBelow, wordsOf};
+ghost use Rattle.model.specs.Keys.{usualSalts, keyed};
+ghost use Rattle.model.specs.Calls as Calls;
+ghost use Rattle.model.specs.Calls.{freshRow, freshEntry, gave, start};
+ghost use Rattle.checks.specs.Sized.{Within};
+
+// The bits of 1.
+const ONE: u64 = 0x3ff0_0000_0000_0000;
+
+// Every word 0.
+pub fn clear(part: &mut [u64])
+    ensures { λ _. ⌜ now (part .exit) ≡ replicate (length (now (part .entry))) 0 ⌝ }
+{
+    let mut i = 0;
+    while i < part.len() {
+        part[i] = 0;
+        i += 1;
+    }
+}
+
+// ---- a fresh entry
+
+// x of fresh row r: rows 0 to n - 1 are X on qubit r.
+pub fn fresh_x(n: usize, r: usize) -> u64
+    requires { ⌜ n ≤ 64 ⌝ }
+    ensures { λ x. ⌜ x ≡ freshRow n r .x ⌝ }
+{
+    if r < n {
+        return 1 << r;
+    }
+    0
+}
+
+// z of fresh row r: rows n to 2n - 1 are Z on qubit r - n.
+pub fn fresh_z(n: usize, r: usize) -> u64
+    requires { ⌜ (n ≤ 64) × (r < 2 * n) ⌝ }
+    ensures { λ z. ⌜ z ≡ freshRow n r .z ⌝ }
+{
+    if r < n {
+        return 0;
+    }
+    1 << (r - n)
+}
+
+// The fresh rows, whatever the words were.
+pub fn fresh_rows(rows: &mut [u64], n: usize)
+    requires { ⌜ (n ≤ 64) × (length (now rows) ≡ 3 * (2 * n)) ⌝ }
+    ensures { λ _. ⌜ now (rows .exit) ≡ rowsBelow (freshRow n) (2 * n) ⌝ }
+{
+    let mut r = 0;
+    while r < 2 * n {
+        let at = 3 * r;
+        let x = fresh_x(n, r);
+        let z = fresh_z(n, r);
+        rows[at] = x;
+        rows[at + 1] = z;
+        rows[at + 2] = 0;
+        r += 1;
+    }
+}
+
+// The fresh entry with its keys, whatever the words were: weight 1 and one coefficient 1 + 0i at index 0.
+pub fn fresh_entry(e: &mut [u64], size: Size)
+    requires { ⌜ Within size × (1 ≤ size .k) × (length (now e) ≡ entryLen size) ⌝ }
+    ensures { λ _. ⌜ now (e .exit) ≡ wordsOf (keyed usualSalts (size .n) (freshEntry size)) ⌝ }
+{
+    let n = size.n;
+    let rows = 5 + 3 * size.k;
+    clear(&mut e[..rows]);
+    fresh_rows(&mut e[rows..], n);
+    let word_key = keys::word_key(&e[rows..], n);
+    let phase_key = keys::phase_loss_key(keys::usual_salts(), n, &e[rows..], 0);
+    e[0] = ONE;
+    e[2] = word_key;
+    e[3] = phase_key;
+    e[4] = 1;
+    e[6] = ONE;
+}
+
+// ---- the calls that begin a sum
+
+// A sum of the fresh entry, if 1 is above the cutoff, in a store holding any words.
+pub fn fresh(size: Size, threshold: f64, cutoff: f64, store: &mut [u64]) -> Answer
+    ensures { λ r. ⌜ gave r (now (store .exit)) ≡ start (Calls.fresh size threshold cutoff) (now (store .entry)) ⌝ }
+{
+    let words = store.len();
+    if !checks::size_sound(size, words) {
+        return checks::plain_answer(checks::zero_header(), 1);
+    }
+    if !checks::bounds_sound(threshold, cutoff) {
+        return checks::plain_answer(checks::zero_header(), 2);
+    }
+    let mut header = Header {
+        size,
+        count: 0,
+        threshold,
+        cutoff,
+        dirty: false,
+    };
+    if cutoff < 1.0 {
+        let len = checks::entry_len(size);
+        fresh_entry(&mut store[..len], size);
+        clear(&mut store[len..]);
+        header.count = 1;
+        return checks::plain_answer(header, 0);
+    }
+    clear(&mut store[..]);
+    checks::plain_answer(header, 0)
+}
