@@ -120,6 +120,9 @@ fn try_words() {
     // keys are not judged
     try_word(2, 0xffff_ffff_ffff_ffff);
     try_word(3, 0);
+}
+
+fn try_other_words() {
     // coefficient count K, K + 1
     try_word(4, 2);
     try_word(4, 3);
@@ -144,6 +147,7 @@ fn try_words() {
 fn main() {
     try_sizes();
     try_words();
+    try_other_words();
     // count: less than there is, one more than there is (a slot of zeros), capacity, above it
     try_header(0, 0, 0);
     try_header(2, 0, 0);
