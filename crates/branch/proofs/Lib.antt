@@ -1,0 +1,4 @@
+pub mod Rows
+pub mod Copied
+pub mod Words
+pub mod Made

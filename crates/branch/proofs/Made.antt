@@ -1,0 +1,52 @@
+-- A branch of a parent with as many words as the size says is such an entry too, so its words hold it. Assumes nothing.
+use mathlib.Core.Path.{_≡_, refl}
+use mathlib.Core.List.{List}
+use Prim.Native.Nat.{ℕ}
+use lib.ListN.{length}
+use Rattle.model.specs.Entries.{Keyed, entryLen, wordsOf, entryOf}
+use Rattle.model.specs.Keys.{usualSalts}
+use Rattle.model.specs.Changes.{flippedRow, changedBody, changedEntry, changedKeyed}
+use Rattle.model.specs.Store.{keyedWeighed, reweighed}
+use Rattle.model.specs.declared.BranchMutation.{BranchMutation}
+use Rattle.model.specs.declared.BranchMutation.the-variants.{Pauli as pauli, Pair as pair, Loss as loss}
+use Rattle.model.specs.declared.Salts.{Salts}
+use Rattle.model.specs.declared.Size.{Size}
+use Rattle.model.proofs.Packed.{Fits, entry-words, words-length}
+use Rattle.keys.proofs.Rows.{mapRows-length}
+use Rattle.branch.proofs.Words.{entry-fits}
+
+module _ (salts : Salts) (s : Size) where
+  -- a change keeps the number of coefficients' words and of rows
+  pub changed-fits : (c : BranchMutation) (e : Keyed) → Fits s e → Fits s (changedKeyed salts (s .n) c e)
+  unfolding changedKeyed changedEntry changedBody
+  changed-fits (pauli p q) e f = record { coefs = f .coefs; rows = mapRows-length (s .n) (flippedRow (pauli p q)) (e .entry .body .rows) }
+  changed-fits (pair p a o b) e f = record { coefs = f .coefs; rows = mapRows-length (s .n) (flippedRow (pair p a o b)) (e .entry .body .rows) }
+  changed-fits (loss q) e f = record { coefs = f .coefs; rows = f .rows }
+
+  -- and the coefficient count
+  pub changed-count : (c : BranchMutation) (e : Keyed) → changedKeyed salts (s .n) c e .entry .body .count ≡ e .entry .body .count
+  unfolding changedKeyed changedEntry changedBody
+  changed-count (pauli p q) e = refl
+  changed-count (pair p a o b) e = refl
+  changed-count (loss q) e = refl
+
+-- the branch that `make_branch` makes
+abbrev pub branchOf : Size → BranchMutation → ℕ → List ℕ → Keyed
+branchOf s c weight parent = reweighed keyedWeighed weight (changedKeyed usualSalts (s .n) c (entryOf s parent))
+
+module _ (s : Size) (c : BranchMutation) (weight : ℕ) (parent : List ℕ) where
+  pub made-count : branchOf s c weight parent .entry .body .count ≡ entryOf s parent .entry .body .count
+  unfolding reweighed
+  made-count = changed-count usualSalts s c (entryOf s parent)
+
+  module _ (l : length parent ≡ entryLen s) where
+    pub made-fits : Fits s (branchOf s c weight parent)
+    unfolding reweighed
+    made-fits = let f = changed-fits usualSalts s c (entryOf s parent) (entry-fits s parent l) in record { coefs = f .coefs; rows = f .rows }
+
+    -- its words hold it
+    pub made-entry : entryOf s (wordsOf (branchOf s c weight parent)) ≡ branchOf s c weight parent
+    made-entry = entry-words s (branchOf s c weight parent) made-fits
+
+    pub made-length : length (wordsOf (branchOf s c weight parent)) ≡ entryLen s
+    made-length = words-length s (branchOf s c weight parent) made-fits

@@ -1,0 +1,6 @@
+pub mod Answers
+pub mod Entries
+pub mod Mapped
+pub mod Orders
+pub mod Qubits
+pub mod Rows

@@ -1,0 +1,183 @@
+-- H twice, S four times and CNOT of two qubits twice give each row back, so all rows: the bits that a gate flips are flipped twice, and the
+-- sign an even number of times. Assumes nothing.
+use mathlib.Core.Path.{_≡_, refl, sym, ap, ap₂, _∙_}
+use mathlib.Core.List.{List, _++_}
+use Prim.Native.Nat.{ℕ, zero, suc, _+_, _*_, _%_, _^_, _<_, _≤_}
+use native.Mathlib.Nat.{zero-mul, mul-comm, suc-mul, zero-div}
+use native.Mathlib.Omega.{arith}
+use lib.Bits.{bitXor, xor-comm, xor-lt, xor-zero-r}
+use lib.ListN.{length, take, drop, length-drop}
+use lib.Seq.{take-all, take-add, length-take-le}
+use Rattle.words.proofs.Xor.{xor-assoc, xor-cancel, xor-cancel-left, xor-swap}
+use Rattle.model.specs.Lists.{wordsBelow}
+use Rattle.model.specs.Entries.{Row, rowAt, rowWords, rowsBelow, mapRows}
+use Rattle.model.specs.Keys.{bit, pick}
+use Rattle.model.specs.Changes.{flips, flipsBy, flippedRow}
+use Rattle.model.specs.Gates.{xorBit, xorSign, turnedRow}
+use Rattle.model.specs.declared.BranchMutation.the-variants.{Pauli as pauli}
+use Rattle.model.specs.declared.Gate.the-variants.{H, S, Cnot}
+use Rattle.model.specs.declared.Pauli.the-variants.{Z}
+use Rattle.keys.proofs.Picks.{bit-lt, bit-xor, pick-bits, bit-pow-same, bit-pow-other}
+use Rattle.keys.proofs.Rows.{mapRows-row}
+use Rattle.gates.proofs.Rows.{product-lt, Three, three, three-words, same-row, part-row}
+
+-- f done k times
+unfoldable pub repeated : {X : Type 0} → ℕ → (X → X) → X → X
+repeated zero f x = x
+repeated (suc k) f x = f (repeated k f x)
+
+-- ---- bits
+
+bit-none : (q : ℕ) → bit q 0 ≡ 0
+bit-none q = ap (λ (x : ℕ). x % 2) (zero-div (2 ^ q))
+
+bit-picked : (q b : ℕ) → b < 2 → bit q (pick b (2 ^ q)) ≡ b
+unfolding pick
+bit-picked q zero h = bit-none q
+bit-picked q (suc zero) h = bit-pow-same q
+bit-picked q (suc (suc b)) h = absurd (omega arith)
+
+bit-unpicked : (j q b : ℕ) → (j ≡ q → ⊥) → bit j (pick b (2 ^ q)) ≡ 0
+unfolding pick
+bit-unpicked j q zero ne = bit-none j
+bit-unpicked j q (suc b) ne = bit-pow-other j q ne
+
+module _ (w q b : ℕ) where
+  -- bit q is XORed with b, any other is as it was
+  bit-flipped : b < 2 → bit q (xorBit w q b) ≡ bitXor (bit q w) b
+  bit-flipped h = bit-xor q w (pick b (2 ^ q)) ∙ ap (bitXor (bit q w)) (bit-picked q b h)
+
+  bit-kept : (j : ℕ) → (j ≡ q → ⊥) → bit j (xorBit w q b) ≡ bit j w
+  bit-kept j ne = bit-xor j w (pick b (2 ^ q)) ∙ ap (bitXor (bit j w)) (bit-unpicked j q b ne) ∙ xor-zero-r (bit j w)
+
+  -- twice with the same bit is not at all
+  undone : (c : ℕ) → c ≡ b → xorBit (xorBit w q b) q c ≡ w
+  undone c e = ap (xorBit (xorBit w q b) q) e ∙ xor-cancel w (pick b (2 ^ q))
+
+  -- with two bits is with their XOR
+  joined-bits : (c : ℕ) → b < 2 → c < 2 → xorBit (xorBit w q b) q c ≡ xorBit w q (bitXor b c)
+  joined-bits c h k = xor-assoc w (pick b (2 ^ q)) (pick c (2 ^ q)) ∙ ap (bitXor w) (sym (pick-bits b c (2 ^ q) h k))
+
+-- ---- H
+
+pub h-twice : (q : ℕ) (r : Row) → repeated 2 (turnedRow (H q)) r ≡ r
+unfolding repeated turnedRow
+h-twice q r =
+    let x = bit q (r .x) in
+    let z = bit q (r .z) in
+    let d : bitXor x z < 2 = xor-lt 1 x z (bit-lt q (r .x)) (bit-lt q (r .z)) in
+    -- x and z are exchanged
+    let x′ : bit q (xorBit (r .x) q (bitXor x z)) ≡ z = bit-flipped (r .x) q (bitXor x z) d ∙ xor-cancel-left x z in
+    let z′ : bit q (xorBit (r .z) q (bitXor x z)) ≡ x = bit-flipped (r .z) q (bitXor x z) d ∙ ap (bitXor z) (xor-comm x z) ∙ xor-cancel-left z x in
+    let same : bitXor (bit q (xorBit (r .x) q (bitXor x z))) (bit q (xorBit (r .z) q (bitXor x z))) ≡ bitXor x z = ap₂ bitXor x′ z′ ∙ xor-comm z x in
+    same-row (undone (r .x) q (bitXor x z) _ same) (undone (r .z) q (bitXor x z) _ same) (undone (r .phase) 1 (x * z) _ (ap₂ _*_ x′ z′ ∙ mul-comm z x))
+
+pub h-four : (q : ℕ) (r : Row) → repeated 4 (turnedRow (H q)) r ≡ r
+unfolding repeated
+h-four q r = h-twice q (repeated 2 (turnedRow (H q)) r) ∙ h-twice q r
+
+-- ---- S
+
+-- the two signs of S twice: together the bit x
+own-bit : (x z : ℕ) → x < 2 → z < 2 → bitXor (x * z) (x * bitXor z x) ≡ x
+own-bit zero zero h k = refl
+own-bit zero (suc zero) h k = refl
+own-bit zero (suc (suc z)) h k = absurd (omega arith)
+own-bit (suc zero) zero h k = refl
+own-bit (suc zero) (suc zero) h k = refl
+own-bit (suc zero) (suc (suc z)) h k = absurd (omega arith)
+own-bit (suc (suc x)) z h k = absurd (omega arith)
+
+-- S twice is Z
+pub s-twice : (q : ℕ) (r : Row) → repeated 2 (turnedRow (S q)) r ≡ flippedRow (pauli Z q) r
+unfolding repeated turnedRow flippedRow flipsBy flips
+s-twice q r =
+    let x = bit q (r .x) in
+    let z = bit q (r .z) in
+    let lx = bit-lt q (r .x) in
+    let lz = bit-lt q (r .z) in
+    let z′ : bit q (xorBit (r .z) q x) ≡ bitXor z x = bit-flipped (r .z) q x lx in
+    same-row refl (undone (r .z) q x x refl)
+    (ap (λ (d : ℕ). xorSign (xorSign (r .phase) (x * z)) (x * d)) z′
+    ∙ joined-bits (r .phase) 1 (x * z) (x * bitXor z x) (product-lt x z lx lz) (product-lt x (bitXor z x) lx (xor-lt 1 z x lz lx))
+    ∙ ap (xorSign (r .phase)) (own-bit x z lx lz))
+
+z-twice : (q : ℕ) (r : Row) → flippedRow (pauli Z q) (flippedRow (pauli Z q) r) ≡ r
+unfolding flippedRow flipsBy flips
+z-twice q r = same-row refl refl (xor-cancel (r .phase) (pick (bit q (r .x)) 2))
+
+pub s-four : (q : ℕ) (r : Row) → repeated 4 (turnedRow (S q)) r ≡ r
+unfolding repeated
+s-four q r = s-twice q (repeated 2 (turnedRow (S q)) r) ∙ ap (flippedRow (pauli Z q)) (s-twice q r) ∙ z-twice q r
+
+-- ---- CNOT
+
+-- its two signs are one: they differ in two flips where x_a and z_b are set, and are 0 elsewhere
+sign-again : (xa zb xb za : ℕ) → xa < 2 → zb < 2 → xa * zb * bitXor (bitXor (bitXor xb xa) (bitXor za zb)) 1 ≡ xa * zb * bitXor (bitXor xb za) 1
+sign-again zero zb xb za h k = simp zero-mul
+sign-again (suc zero) zero xb za h k = simp zero-mul
+sign-again (suc zero) (suc zero) xb za h k = ap (λ (d : ℕ). 1 * 1 * bitXor d 1) (xor-swap xb 1 za 1 ∙ xor-zero-r (bitXor xb za))
+sign-again (suc zero) (suc (suc zb)) xb za h k = absurd (omega arith)
+sign-again (suc (suc xa)) zb xb za h k = absurd (omega arith)
+
+pub cnot-twice : (a b : ℕ) → (a ≡ b → ⊥) → (r : Row) → repeated 2 (turnedRow (Cnot a b)) r ≡ r
+unfolding repeated turnedRow
+cnot-twice a b ne r =
+    let xa = bit a (r .x) in
+    let za = bit a (r .z) in
+    let xb = bit b (r .x) in
+    let zb = bit b (r .z) in
+    let lx = bit-lt a (r .x) in
+    let lz = bit-lt b (r .z) in
+    let xa′ : bit a (xorBit (r .x) b xa) ≡ xa = bit-kept (r .x) b xa a ne in
+    let zb′ : bit b (xorBit (r .z) a zb) ≡ zb = bit-kept (r .z) a zb b (λ e. ne (sym e)) in
+    let xb′ : bit b (xorBit (r .x) b xa) ≡ bitXor xb xa = bit-flipped (r .x) b xa lx in
+    let za′ : bit a (xorBit (r .z) a zb) ≡ bitXor za zb = bit-flipped (r .z) a zb lz in
+    same-row (undone (r .x) b xa _ xa′) (undone (r .z) a zb _ zb′)
+    (undone (r .phase) 1 (xa * zb * bitXor (bitXor xb za) 1) _ (ap₂ _*_ (ap₂ _*_ xa′ zb′) (ap₂ (λ (u v : ℕ). bitXor (bitXor u v) 1) xb′ za′) ∙ sign-again xa zb xb za lx lz))
+
+-- ---- all rows
+
+rows-ext : (f g : ℕ → Row) (m : ℕ) → ((r : ℕ) → r < m → f r ≡ g r) → rowsBelow f m ≡ rowsBelow g m
+unfolding wordsBelow
+rows-ext f g zero h = refl
+rows-ext f g (suc m) h = ap₂ (λ (a : List ℕ) (r : Row). a ++ rowWords r) (rows-ext f g m (λ r l. h r (omega arith))) (h m (omega arith))
+
+own-row : {l : List ℕ} → Three l → l ≡ rowWords (rowAt l 0)
+own-row (three a b c) = refl
+
+-- rows made of themselves
+own-rows : (rows : List ℕ) (m : ℕ) → m * 3 ≤ length rows → rowsBelow (rowAt rows) m ≡ take (m * 3) rows
+unfolding wordsBelow
+own-rows rows zero h = refl
+own-rows rows (suc m) h =
+    let e : suc m * 3 ≡ m * 3 + 3 = suc-mul m 3 in
+    let k : length (take 3 (drop (m * 3) rows)) ≡ 3 = length-take-le 3 (drop (m * 3) rows) (omega (arith, length-drop (m * 3) rows)) in
+    let last : take 3 (drop (m * 3) rows) ≡ rowWords (rowAt rows m) = own-row (three-words _ k) ∙ ap rowWords (part-row rows m 3 refl) in
+    ap₂ (λ (a d : List ℕ). a ++ d) (own-rows rows m (omega arith)) (sym last) ∙ sym (take-add (m * 3) 3 rows) ∙ ap (λ (i : ℕ). take i rows) (sym e)
+
+module _ (n : ℕ) (f : Row → Row) (rows : List ℕ) (l : length rows ≡ 3 * (2 * n)) where
+  own : rowsBelow (rowAt rows) (2 * n) ≡ rows
+  own = own-rows rows (2 * n) (omega arith) ∙ take-all (2 * n * 3) rows (omega arith)
+
+  repeated-rows : (k : ℕ) → repeated k (mapRows n f) rows ≡ mapRows n (repeated k f) rows
+  unfolding repeated mapRows
+  repeated-rows zero = sym own
+  repeated-rows (suc k) =
+      ap (mapRows n f) (repeated-rows k)
+      ∙ rows-ext (λ r. f (rowAt (mapRows n (repeated k f) rows) r)) (λ r. f (repeated k f (rowAt rows r))) (2 * n) (λ r h. ap f (mapRows-row n (repeated k f) rows r h))
+
+  -- what gives each row back gives the rows back
+  pub rows-back : (k : ℕ) → ((r : Row) → repeated k f r ≡ r) → repeated k (mapRows n f) rows ≡ rows
+  unfolding mapRows
+  rows-back k h = repeated-rows k ∙ rows-ext (λ r. repeated k f (rowAt rows r)) (rowAt rows) (2 * n) (λ r b. h (rowAt rows r)) ∙ own
+
+module _ (n : ℕ) (rows : List ℕ) (l : length rows ≡ 3 * (2 * n)) where
+  pub h-rows : (q : ℕ) → repeated 2 (mapRows n (turnedRow (H q))) rows ≡ rows
+  h-rows q = rows-back n (turnedRow (H q)) rows l 2 (h-twice q)
+
+  pub s-rows : (q : ℕ) → repeated 4 (mapRows n (turnedRow (S q))) rows ≡ rows
+  s-rows q = rows-back n (turnedRow (S q)) rows l 4 (s-four q)
+
+  pub cnot-rows : (a b : ℕ) → (a ≡ b → ⊥) → repeated 2 (mapRows n (turnedRow (Cnot a b))) rows ≡ rows
+  cnot-rows a b ne = rows-back n (turnedRow (Cnot a b)) rows l 2 (cnot-twice a b ne)

@@ -1,0 +1,93 @@
+-- The returns of `renormalise` and `finish`. Assumes nothing.
+use mathlib.Core.Path.{_≡_, refl, sym, ap, _∙_}
+use mathlib.Core.Bool.{Bool, true, false, cond, true≢false}
+use mathlib.Core.List.{List}
+use Prim.Native.Nat.{ℕ, _≤_, _<_}
+use native.Mathlib.Omega.{arith}
+use lib.Dec.{ltb}
+use lib.Ieee.{Float}
+use lib.ListN.{length}
+use borrow.Author.Tests.{lt-ltb, le-ltb}
+use Rattle.model.specs.Entries.{Keyed, listed}
+use Rattle.model.specs.Store.{keyedWeighed}
+use Rattle.model.specs.Sum.{Result, done, refused, andThen, normalised, truncated, finished}
+use Rattle.model.specs.declared.Size.{Size}
+use Rattle.model.proofs.Entries.{length-listed}
+use Rattle.model.proofs.Packed.{Packed}
+use Rattle.weights.specs.Holds.{Normalised, Truncated}
+use Rattle.rebuild.specs.Saved.{withWeights, withKeyWords}
+use Rattle.noise.specs.Finish.{Renormalised, Finished, ending, putBack}
+use Rattle.noise.specs.declared.Ending.{Ending}
+use Rattle.noise.specs.declared.Progress.{Progress}
+
+module _ (s : Size) (p : Progress) (w : List ℕ) where
+  pub some-dropped : {r : Bool} {w' : List ℕ} → 0 < p .dropped → Normalised s (p .count) w r w' → Renormalised s p w r w'
+  some-dropped {r} {w'} h n =
+      record {
+        packed = n .packed;
+        result = ap (λ (b : Bool). cond b (normalised keyedWeighed (listed s (p .count) w)) (done (listed s (p .count) w))) (lt-ltb 0 (p .dropped) h) ∙ n .result;
+        unchanged = n .unchanged;
+      }
+
+  pub none-dropped : p .dropped ≤ 0 → Packed s (p .count) w → Renormalised s p w true w
+  none-dropped h g =
+      record {
+        packed = g;
+        result = ap (λ (b : Bool). cond b (normalised keyedWeighed (listed s (p .count) w)) (done (listed s (p .count) w))) (le-ltb 0 (p .dropped) h);
+        unchanged = λ z. refl;
+      }
+
+  module _ (cutoff : Float) (g : Packed s (p .count) w) where
+    abbrev Ends : ℕ → ℕ → List ℕ → Type 0
+    Ends number count w' = Finished s cutoff p w (record { number = number; count = count }) w'
+
+    -- there is room, so the list is normalised if anything was dropped, and truncated
+    with-room : {r : Bool} {w' : List ℕ} → Renormalised s p w r w'
+        → finished keyedWeighed (s .capacity) cutoff (p .dropped) (listed s (p .count) w) ≡ andThen (truncated keyedWeighed cutoff) (cond r (done (listed s (p .count) w')) (refused 9))
+    unfolding finished
+    with-room n =
+        ap (λ (b : Bool). cond b (refused 6) (andThen (truncated keyedWeighed cutoff) (cond (ltb 0 (p .dropped)) (normalised keyedWeighed (listed s (p .count) w)) (done (listed s (p .count) w)))))
+        (le-ltb (s .capacity) (length (listed s (p .count) w)) (omega (arith, length-listed s (p .count) w, g .room)))
+        ∙ ap (andThen (truncated keyedWeighed cutoff)) (n .result)
+
+    pub no-room-left : p .full ≡ true → Ends 6 (p .count) w
+    no-room-left f =
+        record {
+          packed = g;
+          full = λ z. refl;
+          result = λ z. absurd (true≢false (sym f ∙ z));
+          unchanged = λ z. (refl, refl);
+        }
+
+    module _ (o : p .full ≡ false) where
+      pub ended : {v w' : List ℕ} {count : ℕ} → Renormalised s p w true v → Truncated s (p .count) cutoff v count w' → Ends 0 count w'
+      unfolding ending andThen
+      ended n t =
+          record {
+            packed = t .packed;
+            full = λ z. absurd (true≢false (sym z ∙ o));
+            result = λ z. with-room n ∙ t .result;
+            unchanged = λ z. absurd (z refl);
+          }
+
+      pub nothing-left : {v : List ℕ} → Renormalised s p w false v → Ends 9 (p .count) v
+      unfolding ending andThen
+      nothing-left n =
+          record {
+            packed = n .packed;
+            full = λ z. absurd (true≢false (sym z ∙ o));
+            result = λ z. with-room n;
+            unchanged = λ z. (n .unchanged refl, refl);
+          }
+
+-- ---- what `undo` puts back
+
+module _ (s : Size) (count : ℕ) (saved words phases : List ℕ) (es : List Keyed) (dirty : Bool) {ws : List Keyed} {w : List ℕ} (e : ws ≡ withWeights saved es) (g : Packed s count w) where
+  abbrev Back : Type 0
+  Back = Packed s count w × (listed s count w ≡ putBack dirty saved words phases es)
+
+  pub put-back : dirty ≡ true → listed s count w ≡ withKeyWords words phases ws → Back
+  put-back d k = (g, k ∙ ap (withKeyWords words phases) e ∙ ap (λ (b : Bool). putBack b saved words phases es) (sym d))
+
+  pub weights-only : dirty ≡ false → listed s count w ≡ ws → Back
+  weights-only d l = (g, l ∙ e ∙ ap (λ (b : Bool). putBack b saved words phases es) (sym d))

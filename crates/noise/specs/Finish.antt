@@ -1,0 +1,90 @@
+-- How a channel ends, once its branches are merged. Assumes nothing.
+use Prim.Native.Nat.{ℕ, zero, suc, _≤_, _<_}
+use mathlib.Core.Path.{_≡_}
+use mathlib.Core.Bool.{Bool, true, false, cond}
+use mathlib.Core.List.{List, map}
+use lib.Dec.{ltb}
+use lib.Ieee.{Float}
+use lib.ListN.{length, take}
+use Rattle.model.specs.Lists.{joined}
+use Rattle.model.specs.Floats.{float, oneBits, zeroBits, minus}
+use Rattle.model.specs.Entries.{Keyed, listed}
+use Rattle.model.specs.Keys.{usualSalts}
+use Rattle.model.specs.Store.{keyedWeighed, Tally, Split, begun, mergeAll, testedAll, howMany, aboveCutoff}
+use Rattle.model.specs.Channels.{Noise, arms, qubits, foldedTo}
+use Rattle.model.specs.Calls.{noise, branching, Lent, Left, engine, sumOf, rebuilt, rebuiltEntries, act, left}
+use Rattle.model.specs.Sum.{Result, done, refused, normalised, finished}
+use Rattle.model.specs.declared.Size.{Size}
+use Rattle.model.proofs.Packed.{Packed}
+use Rattle.rebuild.specs.Saved.{withWeights, withKeyWords}
+use Rattle.arms.specs.Arms.{armsList}
+use Rattle.arms.specs.declared.Arms.{Arms}
+use Rattle.noise.specs.Progress.{tallyOf, unweighed, shapeQubits, scaledBy, branchesBy}
+use Rattle.noise.specs.declared.Ending.{Ending}
+use Rattle.noise.specs.declared.Progress.{Progress}
+
+-- normalised if anything was dropped: w became w', or 9 and no changed word
+pub record Renormalised (s : Size) (p : Progress) (w : List ℕ) (r : Bool) (w' : List ℕ) : Type 0 where
+  pub packed : Packed s (p .count) w'
+  pub result : cond (ltb 0 (p .dropped)) (normalised keyedWeighed (listed s (p .count) w)) (done (listed s (p .count) w)) ≡ cond r (done (listed s (p .count) w')) (refused 9)
+  pub unchanged : r ≡ false → w' ≡ w
+
+-- the result that an ending stands for
+unfoldable pub ending : ℕ → List Keyed → Result (List Keyed)
+ending zero es = done es
+ending (suc n) es = refused (suc n)
+
+-- w became w'; a refusal changes no word, and is 6 if a branch found no room
+pub record Finished (s : Size) (cutoff : Float) (p : Progress) (w : List ℕ) (r : Ending) (w' : List ℕ) : Type 0 where
+  pub packed : Packed s (r .count) w'
+  pub full : p .full ≡ true → r .number ≡ 6
+  pub result : p .full ≡ false → finished keyedWeighed (s .capacity) cutoff (p .dropped) (listed s (p .count) w) ≡ ending (r .number) (listed s (r .count) w')
+  pub unchanged : (r .number ≡ 0 → ⊥) → (w' ≡ w) × (r .count ≡ p .count)
+
+-- the first entries as they were: weights and, if they were rebuilt, keys
+abbrev pub putBack : Bool → (saved words phases : List ℕ) → List Keyed → List Keyed
+putBack dirty saved words phases es = cond dirty (withKeyWords words phases (withWeights saved es)) (withWeights saved es)
+
+-- ---- before it ends
+
+-- what is left of a live entry
+abbrev pub keepBy : Arms → Float
+keepBy r = minus (float oneBits) (foldedTo (float zeroBits) (armsList r))
+
+-- the branches of the entries es, and these scaled
+abbrev pub splitFor : Size → Float → Arms → List Keyed → Split Keyed
+splitFor s threshold r es = record { stay = map (scaledBy (r .shape) (keepBy r)) es; branches = joined (map (branchesBy s threshold r) es) }
+
+abbrev pub merging : Size → Float → Float → Split Keyed → Tally Keyed
+merging s threshold cutoff p = mergeAll (engine s threshold) (aboveCutoff cutoff) (p .branches) (begun (p .stay))
+
+-- the entries es were scaled and their branches merged, which left p and w
+pub record Spread (s : Size) (threshold cutoff : Float) (r : Arms) (es : List Keyed) (p : Progress) (w : List ℕ) : Type 0 where
+  pub packed : Packed s (p .count) w
+  pub grows : length es ≤ p .count
+  pub front : map unweighed (take (length es) (listed s (p .count) w)) ≡ map unweighed es
+  pub tally : p .full ≡ false → tallyOf s p w ≡ merging s threshold cutoff (splitFor s threshold r es)
+  pub compared : p .full ≡ false → p .compared ≡ howMany (testedAll usualSalts s threshold (aboveCutoff cutoff) (splitFor s threshold r es .branches) (begun (splitFor s threshold r es .stay)))
+  pub overflow : p .full ≡ true → s .capacity < length (merging s threshold cutoff (splitFor s threshold r es) .entries)
+
+-- ---- a channel
+
+-- the arms of a noise, and the qubits that must be live
+pub record Stands (r : Arms) (c : Noise) : Type 0 where
+  pub rates : armsList r ≡ arms c
+  pub places : shapeQubits (r .shape) ≡ qubits c
+
+-- the entries that a channel works on: a dirty sum's keys are rebuilt
+abbrev pub readied : Size → Bool → List Keyed → List Keyed
+readied s dirty es = cond dirty (rebuiltEntries (s .n) es) es
+
+-- w became w', and the keys that stood in w are saved if they are rebuilt
+pub record Readied (s : Size) (count : ℕ) (dirty : Bool) (w words phases w' : List ℕ) : Type 0 where
+  pub packed : Packed s count w'
+  pub entries : listed s count w' ≡ readied s dirty (listed s count w)
+  pub long : (length words ≡ 256) × (length phases ≡ 256)
+  pub keys : dirty ≡ true → (take count words ≡ map (λ e. e .wordKey) (listed s count w)) × (take count phases ≡ map (λ e. e .phaseKey) (listed s count w))
+
+-- what the definition of the channel leaves, once no test applies
+abbrev pub ranBy : Noise → Lent → Left
+ranBy c x = let m = rebuilt branching (x .header .dirty) (sumOf x) in left (noise c) x m (act engine (noise c) m)

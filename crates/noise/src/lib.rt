@@ -1,0 +1,380 @@
+// Channels: document 01, point 5 (noise.rs).
+use arms::Arms;
+use arms::Shape;
+use model::Answer;
+use model::BranchMutation;
+use model::Counts;
+use model::Header;
+use model::Size;
+use store::Fate;
+ghost use mathlib.Core.Path.{_≡_};
+ghost use mathlib.Core.Bool.{true};
+ghost use mathlib.Core.List.{[], _∷_, map};
+ghost use Prim.Native.Nat.{_*_, _<_, _≤_};
+ghost use lib.ListN.{length, take};
+ghost use Rattle.model.specs.Floats.{finiteFromZero};
+ghost use Rattle.model.specs.Entries.{entryLen, entryOf, stretch, listed};
+ghost use Rattle.model.specs.Keys.{usualSalts};
+ghost use Rattle.model.specs.Changes.{changedKeyed};
+ghost use Rattle.model.specs.Store.{keyedWeighed, weightOf, reweighed};
+ghost use Rattle.model.specs.Channels.{Noise};
+ghost use Rattle.model.specs.Calls as Calls;
+ghost use Rattle.keys.specs.Qubits.{QubitsBelow};
+ghost use Rattle.store.specs.Branch.{Branch};
+ghost use Rattle.model.proofs.Packed.{Packed};
+ghost use Rattle.rebuild.specs.Saved.{Became};
+ghost use Rattle.noise.specs.Finish.{Renormalised, Finished, putBack, Spread, Stands, Readied, ranBy};
+ghost use Rattle.noise.specs.Progress.{Went, Light, ShapeBelow, parentAt, branchesBelow, liveAt, scaledBy, branchesUpTo, started, FewCoefficients};
+
+// How far merging has come: the entries listed, what became of the branches, and whether one found no room.
+pub struct Progress {
+    pub count: usize,
+    pub merged: usize,
+    pub stored: usize,
+    pub dropped: usize,
+    pub compared: usize,
+    pub full: bool,
+}
+
+// One branch more. Once a branch has found no room, the rest is left.
+pub fn merge_branch(
+    store: &mut [u64],
+    size: Size,
+    threshold: f64,
+    cutoff: f64,
+    p: Progress,
+    branch: &[u64],
+) -> Progress
+    requires { ⌜ Packed size (p .count) (now store) ⌝ }
+    requires { ⌜ Branch size (now branch) × Light 65536 p ⌝ }
+    ensures { λ r. ⌜ Went size threshold cutoff (entryOf size (now (branch .entry)) ∷ []) p (now (store .entry)) r (now (store .exit)) ⌝ }
+{
+    if p.full {
+        return p;
+    }
+    let settled = store::merge_one(store, size, p.count, threshold, cutoff, branch);
+    let fate = settled.fate;
+    let mut next = p;
+    next.compared = p.compared + settled.compared;
+    match fate {
+        Fate::Merged => {
+            next.merged = p.merged + 1;
+        }
+        Fate::Stored => {
+            next.stored = p.stored + 1;
+            next.count = p.count + 1;
+        }
+        Fate::Dropped => {
+            next.dropped = p.dropped + 1;
+        }
+        Fate::NoRoom => {
+            next.full = true;
+        }
+    }
+    next
+}
+
+// The branch of the parent at place i, with this weight, merged. It is made in `scratch`.
+pub fn branch_from(
+    store: &mut [u64],
+    scratch: &mut [u64],
+    size: Size,
+    threshold: f64,
+    cutoff: f64,
+    i: usize,
+    m: BranchMutation,
+    weight: u64,
+    p: Progress,
+) -> Progress
+    requires { ⌜ Packed size (p .count) (now store) × (i < p .count) × (entryOf size (stretch size (now store) i) .entry .body .count ≤ size .k) ⌝ }
+    requires { ⌜ (length (now scratch) ≡ entryLen size) × QubitsBelow 64 m × Light 65536 p ⌝ }
+    ensures { λ r. ⌜ (length (now (scratch .exit)) ≡ entryLen size) × Went size threshold cutoff (reweighed keyedWeighed weight (changedKeyed usualSalts (size .n) m (entryOf size (stretch size (now (store .entry)) i))) ∷ []) p (now (store .entry)) r (now (store .exit)) ⌝ }
+{
+    let rows = 5 + 3 * size.k;
+    let parent = store::entry(store, size, i);
+    let delta = keys::mutation_delta(keys::usual_salts(), size.n, &parent[rows..], m);
+    branch::make_branch(&mut scratch[..], parent, size, m, weight, delta);
+    merge_branch(store, size, threshold, cutoff, p, scratch)
+}
+
+// The branches of the parent at place i, in order, merged. `old` is the weight it had before it was scaled.
+pub fn merge_arms(
+    store: &mut [u64],
+    scratch: &mut [u64],
+    size: Size,
+    threshold: f64,
+    cutoff: f64,
+    arms: Arms,
+    i: usize,
+    old: u64,
+    p: Progress,
+) -> Progress
+    requires { ⌜ Packed size (p .count) (now store) × (i < p .count) × (entryOf size (stretch size (now store) i) .entry .body .count ≤ size .k) ⌝ }
+    requires { ⌜ (length (now scratch) ≡ entryLen size) × ShapeBelow 64 (arms .shape) × (arms .count ≤ 15) × Light (15 * i) p ⌝ }
+    ensures { λ r. ⌜ (length (now (scratch .exit)) ≡ entryLen size) × Went size threshold cutoff (branchesBelow size threshold arms (arms .count) (parentAt size (now (store .entry)) i old)) p (now (store .entry)) r (now (store .exit)) ⌝ }
+{
+    let rates = arms.rates;
+    let shape = arms.shape;
+    let count = arms.count;
+    let weight = words::float_of(old);
+    let mut q = p;
+    let mut a = 0;
+    while a < count {
+        let m = arms::mutation_at(shape, a);
+        let w = words::bits_of(weight * rates[a]);
+        q = branch_from(store, scratch, size, threshold, cutoff, i, m, w, q);
+        a += 1;
+    }
+    q
+}
+
+// ---- parents
+
+// Whether none of the qubits is lost.
+pub fn is_live(shape: Shape, loss: u64) -> bool
+    requires { ⌜ ShapeBelow 64 shape ⌝ }
+    ensures { λ r. ⌜ r ≡ liveAt shape loss ⌝ }
+{
+    match shape {
+        Shape::One(q) => (loss >> q) % 2 == 0,
+        Shape::Lose(q) => (loss >> q) % 2 == 0,
+        Shape::Two(p, q) => {
+            if (loss >> p) % 2 == 0 {
+                return (loss >> q) % 2 == 0;
+            }
+            false
+        }
+    }
+}
+
+// The weight of a live entry times `keep`.
+pub fn scale_entry(e: &mut [u64], size: Size, shape: Shape, keep: f64)
+    requires { ⌜ (length (now e) ≡ entryLen size) × ShapeBelow 64 shape ⌝ }
+    ensures { λ _. ⌜ Became size (scaledBy shape keep) (now (e .entry)) (now (e .exit)) ⌝ }
+{
+    if is_live(shape, e[1]) {
+        e[0] = words::bits_of(words::float_of(e[0]) * keep);
+    }
+}
+
+// Every live entry's.
+pub fn scale_parents(store: &mut [u64], size: Size, count: usize, shape: Shape, keep: f64)
+    requires { ⌜ Packed size count (now store) × ShapeBelow 64 shape ⌝ }
+    ensures { λ _. ⌜ Packed size count (now (store .exit)) × (listed size count (now (store .exit)) ≡ map (scaledBy shape keep) (listed size count (now (store .entry)))) ⌝ }
+{
+    let len = checks::entry_len(size);
+    let mut i = 0;
+    while i < count {
+        let at = i * len;
+        let end = at + len;
+        scale_entry(&mut store[at..end], size, shape, keep);
+        i += 1;
+    }
+}
+
+// The branches of every live parent, in list order, merged. The parents are scaled; `saved` has the weights they had.
+pub fn merge_parents(
+    store: &mut [u64],
+    scratch: &mut [u64],
+    size: Size,
+    threshold: f64,
+    cutoff: f64,
+    arms: Arms,
+    count: usize,
+    saved: &[u64; 256],
+) -> Progress
+    requires { ⌜ Packed size count (now store) × FewCoefficients size count (now store) ⌝ }
+    requires { ⌜ (length (now scratch) ≡ entryLen size) × ShapeBelow 64 (arms .shape) × (arms .count ≤ 15) × (length (now saved) ≡ 256) ⌝ }
+    ensures { λ r. ⌜ (length (now (scratch .exit)) ≡ entryLen size) × Went size threshold cutoff (branchesUpTo size threshold arms (now (saved .entry)) (now (store .entry)) count) (started count) (now (store .entry)) r (now (store .exit)) ⌝ }
+{
+    let len = checks::entry_len(size);
+    let shape = arms.shape;
+    let mut q = Progress {
+        count,
+        merged: 0,
+        stored: 0,
+        dropped: 0,
+        compared: 0,
+        full: false,
+    };
+    let mut i = 0;
+    while i < count {
+        if is_live(shape, store[i * len + 1]) {
+            q = merge_arms(
+                store,
+                scratch,
+                size,
+                threshold,
+                cutoff,
+                arms,
+                i,
+                saved[i],
+                q,
+            );
+        }
+        i += 1;
+    }
+    q
+}
+
+// The entries scaled, and their branches merged. `saved` takes the weights they had.
+pub fn spread(
+    store: &mut [u64],
+    saved: &mut [u64; 256],
+    size: Size,
+    threshold: f64,
+    cutoff: f64,
+    arms: Arms,
+    count: usize,
+) -> Progress
+    requires { ⌜ Packed size count (now store) × FewCoefficients size count (now store) ⌝ }
+    requires { ⌜ ShapeBelow 64 (arms .shape) × (arms .count ≤ 15) × (length (now saved) ≡ 256) ⌝ }
+    ensures { λ r. ⌜ (length (now (saved .exit)) ≡ 256) × (take count (now (saved .exit)) ≡ map (weightOf keyedWeighed) (listed size count (now (store .entry)))) × Spread size threshold cutoff arms (listed size count (now (store .entry))) r (now (store .exit)) ⌝ }
+{
+    let shape = arms.shape;
+    let len = checks::entry_len(size);
+    rebuild::save_weights(saved, store, size, count);
+    let keep = 1.0 - arms::total_rate(arms);
+    scale_parents(store, size, count, shape, keep);
+    let mut scratch = [0u64; 581];
+    merge_parents(
+        store,
+        &mut scratch[..len],
+        size,
+        threshold,
+        cutoff,
+        arms,
+        count,
+        saved,
+    )
+}
+
+// ---- the end of a channel
+
+// How it ended: its number, and the entries listed.
+pub struct Ending {
+    pub number: u64,
+    pub count: usize,
+}
+
+// Normalised if anything was dropped. The answer is false for a list that is not empty and whose total is 0; it is left as it is.
+pub fn renormalise(store: &mut [u64], size: Size, p: Progress) -> bool
+    requires { ⌜ Packed size (p .count) (now store) ⌝ }
+    ensures { λ r. ⌜ Renormalised size p (now (store .entry)) r (now (store .exit)) ⌝ }
+{
+    if 0 < p.dropped {
+        return weights::normalise_entries(store, size, p.count);
+    }
+    true
+}
+
+// 6 if a branch found no room; normalised if anything was dropped, or 9; then truncated.
+pub fn finish(store: &mut [u64], size: Size, cutoff: f64, p: Progress) -> Ending
+    requires { ⌜ Packed size (p .count) (now store) × (finiteFromZero cutoff ≡ true) ⌝ }
+    ensures { λ r. ⌜ Finished size cutoff p (now (store .entry)) r (now (store .exit)) ⌝ }
+{
+    if p.full {
+        return Ending {
+            number: 6,
+            count: p.count,
+        };
+    }
+    if renormalise(store, size, p) {
+        let count = weights::truncate_entries(store, size, p.count, cutoff);
+        return Ending { number: 0, count };
+    }
+    Ending {
+        number: 9,
+        count: p.count,
+    }
+}
+
+// The first `count` of `total` entries as they were before the call, and no others.
+pub fn undo(
+    store: &mut [u64],
+    size: Size,
+    count: usize,
+    total: usize,
+    saved: &[u64; 256],
+    dirty: bool,
+    words: &[u64; 256],
+    phases: &[u64; 256],
+)
+    requires { ⌜ Packed size total (now store) × (count ≤ total) ⌝ }
+    requires { ⌜ (length (now saved) ≡ 256) × (length (now words) ≡ 256) × (length (now phases) ≡ 256) ⌝ }
+    ensures { λ _. ⌜ Packed size count (now (store .exit)) × (listed size count (now (store .exit)) ≡ putBack dirty (take count (now (saved .entry))) (take count (now (words .entry))) (take count (now (phases .entry))) (take count (listed size total (now (store .entry))))) ⌝ }
+{
+    rebuild::clear_from(store, size, count, total);
+    rebuild::restore_weights(store, size, count, saved);
+    if dirty {
+        rebuild::restore_keys(store, size, count, words, phases);
+    }
+}
+
+// ---- a channel
+
+// A dirty sum's keys are saved and rebuilt.
+pub fn ready(
+    store: &mut [u64],
+    words: &mut [u64; 256],
+    phases: &mut [u64; 256],
+    size: Size,
+    count: usize,
+    dirty: bool,
+)
+    requires { ⌜ Packed size count (now store) × (length (now words) ≡ 256) × (length (now phases) ≡ 256) ⌝ }
+    ensures { λ _. ⌜ Readied size count dirty (now (store .entry)) (now (words .exit)) (now (phases .exit)) (now (store .exit)) ⌝ }
+{
+    if dirty {
+        rebuild::save_keys(words, phases, store, size, count);
+        rebuild::rebuild_keys(store, size, count);
+    }
+}
+
+// The channel itself, on a sum that its tests let through: 0, 6 or 9.
+pub fn run(h: Header, store: &mut [u64], arms: Arms) -> Answer
+    requires { ⌜ Packed (h .size) (h .count) (now store) × FewCoefficients (h .size) (h .count) (now store) × (finiteFromZero (h .cutoff) ≡ true) ⌝ }
+    requires { ⌜ ShapeBelow 64 (arms .shape) × (arms .count ≤ 15) ⌝ }
+    ensures { λ r. ⌜ ((c : Noise) → Stands arms c → Calls.gave r (now (store .exit)) ≡ ranBy c (Calls.held h (now (store .entry)))) ⌝ }
+{
+    let size = h.size;
+    let count = h.count;
+    let dirty = h.dirty;
+    let mut words = [0u64; 256];
+    let mut phases = [0u64; 256];
+    let mut saved = [0u64; 256];
+    ready(store, &mut words, &mut phases, size, count, dirty);
+    let p = spread(store, &mut saved, size, h.threshold, h.cutoff, arms, count);
+    let end = finish(store, size, h.cutoff, p);
+    if end.number == 0 {
+        return Answer {
+            number: 0,
+            header: Header {
+                size,
+                count: end.count,
+                threshold: h.threshold,
+                cutoff: h.cutoff,
+                dirty: false,
+            },
+            counts: Counts {
+                merged: p.merged,
+                stored: p.stored,
+                dropped: p.dropped,
+                compared: p.compared,
+            },
+            place: 0,
+            length: 0,
+        };
+    }
+    undo(
+        store,
+        size,
+        count,
+        end.count,
+        &saved,
+        dirty,
+        &words,
+        &phases,
+    );
+    checks::plain_answer(h, end.number)
+}

@@ -1,0 +1,80 @@
+-- The first slots of a store, and what is left when the others are emptied. Assumes nothing.
+use mathlib.Core.Path.{_≡_, refl, sym, ap, _∙_}
+use mathlib.Core.Bool.{true}
+use mathlib.Core.List.{List, [], _∷_, _++_, append-assoc, map, map-append}
+use Prim.Native.Nat.{ℕ, zero, suc, _+_, _*_, _-_, _≤_, _<_}
+use native.Mathlib.Nat.{suc-mul, mul-le-mul-right}
+use native.Mathlib.Numerals.{add-one}
+use native.Mathlib.Omega.{arith}
+use lib.ListN.{length, take, drop, set, replicate, length-drop, length-map, length-replicate, replicate-append-replicate}
+use lib.Seq.{take-add, take-at, drop-at, take-all, take-suc-set, length-take-le}
+use borrow.Rule.Slice.PartMut.{putMid, midOf, same-len-mid, post-is}
+use Rattle.model.specs.Lists.{groups, every}
+use Rattle.model.specs.Entries.{pack, entryLen, entryOf, listed, pastCount}
+use Rattle.model.specs.Numbers.{allZero}
+use Rattle.model.specs.declared.Size.{Size}
+use Rattle.model.proofs.Lists.{length-groups}
+use Rattle.model.proofs.Groups.{groups-add}
+use Rattle.model.proofs.Packed.{Packed, within, packed-is}
+
+-- TWO STORES THAT HOLD ONE LIST ARE EQUAL
+pub same-store : (s : Size) (count : ℕ) (v w : List ℕ) → Packed s count v → Packed s count w → listed s count v ≡ listed s count w → v ≡ w
+same-store s count v w h g e = packed-is s count v h ∙ ap (pack s) e ∙ sym (packed-is s count w g)
+
+-- the entries of the first slots are the first of the listed
+pub listed-take : (s : Size) (m n : ℕ) (w : List ℕ) → m ≤ n → listed s m w ≡ take m (listed s n w)
+unfolding listed
+listed-take s m n w h =
+    let k = entryLen s in
+    let e : n ≡ m + (n - m) = omega arith in
+    sym (ap (λ (i : ℕ). take m (map (entryOf s) (groups k i w))) e
+    ∙ ap (λ (l : List (List ℕ)). take m (map (entryOf s) l)) (groups-add k m (n - m) w)
+    ∙ ap (take m) (map-append (entryOf s) (groups k m w) (groups k (n - m) (drop (m * k) w)))
+    ∙ take-at (map (entryOf s) (groups k m w)) _ m (length-map (groups k m w) (entryOf s) ∙ length-groups k m w))
+
+-- they depend on no later word
+groups-front : (k n : ℕ) (w r : List ℕ) → n * k ≤ length w → groups k n (take (n * k) w ++ r) ≡ groups k n w
+unfolding groups
+groups-front k zero w r p = refl
+groups-front k (suc n) w r p =
+    let q : suc n * k ≡ n * k + k = suc-mul n k in
+    let e : suc n * k ≡ k + n * k = omega arith in
+    let l : length (take k w) ≡ k = length-take-le k w (omega arith) in
+    let t : List ℕ = take (n * k) (drop k w) ++ r in
+    rw (e, take-add, append-assoc, take-at (take k w) t k l, drop-at (take k w) t k l, groups-front k n (drop k w) r (omega (arith, length-drop k w)))
+
+-- ---- emptied
+
+zeros-more : (m : ℕ) (r : List ℕ) → allZero r ≡ true → allZero (replicate m 0 ++ r) ≡ true
+unfolding allZero every
+zeros-more zero r h = h
+zeros-more (suc m) r h = zeros-more m r h
+
+module _ (s : Size) (from count : ℕ) (w z : List ℕ) (h : Packed s count w) (l : from ≤ count) where
+  pub cleared-packed : z ≡ replicate (length (midOf (from * entryLen s) (count * entryLen s - from * entryLen s) w)) 0 → Packed s from (putMid (from * entryLen s) (count * entryLen s - from * entryLen s) w z)
+  unfolding pastCount
+  cleared-packed e =
+      let a = from * entryLen s in
+      let n = count * entryLen s - a in
+      let b : a ≤ count * entryLen s = mul-le-mul-right (entryLen s) l in
+      let i : count * entryLen s ≤ length w = within s count w h in
+      record {
+        sized = rw (same-len-mid a n w z (ap length e ∙ length-replicate _ 0)) (h .sized);
+        room = omega (arith, h .room);
+        zeros =
+            rw (drop-at (take a w) (z ++ drop n (drop a w)) a (length-take-le a w (omega arith)), post-is a (count * entryLen s) w b, e) (zeros-more (length (midOf a n w)) _ (h .zeros));
+      }
+
+  pub cleared-listed : listed s from (putMid (from * entryLen s) (count * entryLen s - from * entryLen s) w z) ≡ take from (listed s count w)
+  unfolding listed
+  cleared-listed =
+      let b : from * entryLen s ≤ count * entryLen s = mul-le-mul-right (entryLen s) l in
+      let i : count * entryLen s ≤ length w = within s count w h in
+      ap (map (entryOf s)) (groups-front (entryLen s) from w _ (omega arith)) ∙ listed-take s from count w l
+
+-- a loop that writes 0: the first i words are 0
+pub zeros-next : (i : ℕ) (v : List ℕ) → i < length v → take i v ≡ replicate i 0 → take (i + 1) (set v i 0) ≡ replicate (i + 1) 0
+zeros-next i v h e = ap (λ (m : ℕ). take m (set v i 0)) (add-one i) ∙ take-suc-set v i 0 h ∙ ap (λ (l : List ℕ). l ++ 0 ∷ []) e ∙ replicate-append-replicate i 1 0
+
+pub zeros-end : (i m : ℕ) (v : List ℕ) → i ≡ m → length v ≡ m → take i v ≡ replicate i 0 → v ≡ replicate m 0
+zeros-end i m v p l e = sym (take-all i v (omega arith)) ∙ e ∙ ap (λ (k : ℕ). replicate k 0) p

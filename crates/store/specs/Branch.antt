@@ -1,0 +1,48 @@
+-- What is asked of a branch and of the store that it is merged into, and what a search and a merge promise. Assumes nothing.
+use Prim.Native.Nat.{ℕ, _+_, _≤_}
+use mathlib.Core.Path.{_≡_}
+use mathlib.Core.List.{List, [], _∷_, _++_}
+use lib.Ieee.{Float}
+use lib.ListN.{length, getD}
+use Rattle.model.specs.Entries.{Keyed, entryLen, listed}
+use Rattle.model.specs.Store.{Tally, begun, walk, merge, aboveCutoff}
+use Rattle.model.specs.Calls.{engine}
+use Rattle.model.specs.declared.Size.{Size}
+use Rattle.model.proofs.Packed.{Packed}
+use Rattle.store.specs.declared.Search.{Search}
+use Rattle.store.specs.declared.Fate.{Fate}
+use Rattle.store.specs.declared.Fate.the-variants.{Merged, Stored, Dropped, NoRoom}
+use Rattle.store.specs.declared.Settled.{Settled}
+
+-- a branch's words: an entry, with no more coefficients than it has room for
+pub record Branch (s : Size) (w : List ℕ) : Type 0 where
+  pub words : length w ≡ entryLen s
+  pub coefficients : getD w 4 0 ≤ s .k
+
+-- the search for b among es is the walk over their stored keys
+pub record Searched (s : Size) (threshold : Float) (b : Keyed) (es : List Keyed) (r : Search) : Type 0 where
+  pub found : r .found ≡ walk s threshold b 0 es .found
+  pub tested : r .compared ≡ length (walk s threshold b 0 es .tested)
+
+-- the entries that are listed after a branch's fate, of `count` before
+unfoldable pub countBy : Fate → ℕ → ℕ
+countBy Merged count = count
+countBy Stored count = count + 1
+countBy Dropped count = count
+countBy NoRoom count = count
+
+-- the tally of the branch b, when es is listed: for want of room the branch is not in the list
+unfoldable pub tallyBy : Fate → Keyed → List Keyed → Tally Keyed
+tallyBy Merged b es = record { entries = es; merged = 1; stored = 0; dropped = 0 }
+tallyBy Stored b es = record { entries = es; merged = 0; stored = 1; dropped = 0 }
+tallyBy Dropped b es = record { entries = es; merged = 0; stored = 0; dropped = 1 }
+tallyBy NoRoom b es = record { entries = es ++ b ∷ []; merged = 0; stored = 1; dropped = 0 }
+
+-- the branch b was merged into the `count` entries that w holds, which left w'
+pub record MergedBy (s : Size) (count : ℕ) (threshold cutoff : Float) (b : Keyed) (w w' : List ℕ) (r : Settled) : Type 0 where
+  pub tested : r .compared ≡ length (walk s threshold b 0 (listed s count w) .tested)
+  pub packed : Packed s (countBy (r .fate) count) w'
+  pub tally : merge (engine s threshold) (aboveCutoff cutoff) b (begun (listed s count w)) ≡ tallyBy (r .fate) b (listed s (countBy (r .fate) count) w')
+  -- with no room nothing is changed
+  pub unchanged : r .fate ≡ NoRoom → w' ≡ w
+  pub full : r .fate ≡ NoRoom → count ≡ s .capacity

@@ -1,0 +1,175 @@
+// Normalise and truncate: document 01, point 4. An entry's weight has its bits in the first of the entry's words.
+use model::Answer;
+use model::Header;
+use model::Size;
+ghost use mathlib.Core.Path.{_≡_};
+ghost use mathlib.Core.Bool.{true};
+ghost use mathlib.Core.List.{[], map};
+ghost use Prim.Native.Nat.{_<_, _≤_};
+ghost use lib.ListN.{length, getD, set, replicate};
+ghost use Rattle.model.specs.Floats.{finiteFromZero};
+ghost use Rattle.model.specs.Entries.{entryOf, listed};
+ghost use Rattle.model.specs.Store.{keyedWeighed};
+ghost use Rattle.model.specs.Sum.{total, dividedBy, kept};
+ghost use Rattle.model.specs.Calls as Calls;
+ghost use Rattle.model.proofs.Packed.{Packed};
+ghost use Rattle.weights.specs.Holds.{Holds, Normalised, Truncated};
+
+// ---- normalise
+
+// The weights added from 0 in list order.
+pub fn weights_total(store: &[u64], size: Size, count: usize) -> f64
+    requires { ⌜ Packed size count (now store) ⌝ }
+    ensures { λ r. ⌜ r ≡ total keyedWeighed (listed size count (now (store .entry))) ⌝ }
+{
+    let len = checks::entry_len(size);
+    let mut sum = 0.0;
+    let mut i = 0;
+    while i < count {
+        sum = sum + words::float_of(store[i * len]);
+        i += 1;
+    }
+    sum
+}
+
+// Each weight divided by `by`.
+pub fn divide_weights(store: &mut [u64], size: Size, count: usize, by: f64)
+    requires { ⌜ Packed size count (now store) ⌝ }
+    ensures { λ _. ⌜ Holds size count (map (dividedBy keyedWeighed by) (listed size count (now (store .entry)))) (now (store .exit)) ⌝ }
+{
+    let len = checks::entry_len(size);
+    let mut i = 0;
+    while i < count {
+        let at = i * len;
+        let weight = words::float_of(store[at]);
+        store[at] = words::bits_of(weight / by);
+        i += 1;
+    }
+}
+
+// Each weight divided by the total. A list that is not empty and whose total is 0 is left as it is, and the answer is false.
+pub fn normalise_entries(store: &mut [u64], size: Size, count: usize) -> bool
+    requires { ⌜ Packed size count (now store) ⌝ }
+    ensures { λ r. ⌜ Normalised size count (now (store .entry)) r (now (store .exit)) ⌝ }
+{
+    if count == 0 {
+        return true;
+    }
+    let sum = weights_total(store, size, count);
+    if sum == 0.0 {
+        return false;
+    }
+    divide_weights(store, size, count, sum);
+    true
+}
+
+// ---- truncate
+
+// Every word 0.
+fn clear(part: &mut [u64])
+    ensures { λ _. ⌜ now (part .exit) ≡ replicate (length (now (part .entry))) 0 ⌝ }
+{
+    let mut i = 0;
+    while i < part.len() {
+        part[i] = 0;
+        i += 1;
+    }
+}
+
+// The entry at place `from` written over the one at place `to`: all its words, so its keys move with it.
+fn move_entry(store: &mut [u64], size: Size, count: usize, from: usize, to: usize)
+    requires { ⌜ Packed size count (now store) × (from < count) × (to ≤ from) ⌝ }
+    ensures { λ _. ⌜ Holds size count (set (listed size count (now (store .entry))) to (getD (listed size count (now (store .entry))) from (entryOf size []))) (now (store .exit)) ⌝ }
+{
+    if from == to {
+        return;
+    }
+    let len = checks::entry_len(size);
+    let a = from * len;
+    let b = to * len;
+    let mut k = 0;
+    while k < len {
+        store[b + k] = store[a + k];
+        k += 1;
+    }
+}
+
+// The entries whose weight is above the cutoff, moved to the front in list order. The slots past them are emptied. Their number is the answer.
+fn keep_above(store: &mut [u64], size: Size, count: usize, cutoff: f64) -> usize
+    requires { ⌜ Packed size count (now store) ⌝ }
+    ensures { λ r. ⌜ Holds size r (kept keyedWeighed cutoff (listed size count (now (store .entry)))) (now (store .exit)) ⌝ }
+{
+    let len = checks::entry_len(size);
+    let mut j = 0;
+    let mut i = 0;
+    while i < count {
+        let weight = words::float_of(store[i * len]);
+        if cutoff < weight {
+            move_entry(store, size, count, i, j);
+            j += 1;
+        }
+        i += 1;
+    }
+    let at = j * len;
+    let end = count * len;
+    clear(&mut store[at..end]);
+    j
+}
+
+// The entries whose weight is above the cutoff, in list order, the slots past them emptied; if any went, normalised. Their number is the answer.
+// (Weights above a cutoff that is not below 0 have a total above 0: there is no 9.)
+pub fn truncate_entries(store: &mut [u64], size: Size, count: usize, cutoff: f64) -> usize
+    requires { ⌜ Packed size count (now store) × (finiteFromZero cutoff ≡ true) ⌝ }
+    ensures { λ r. ⌜ Truncated size count cutoff (now (store .entry)) r (now (store .exit)) ⌝ }
+{
+    let left = keep_above(store, size, count, cutoff);
+    if left == count {
+        return count;
+    }
+    normalise_entries(store, size, left);
+    left
+}
+
+// ---- the calls
+
+// THE CALL: each weight divided by the total. 1, 2, 5, 9.
+pub fn normalise(h: Header, store: &mut [u64]) -> Answer
+    ensures { λ r. ⌜ Calls.gave r (now (store .exit)) ≡ Calls.step Calls.normalise (Calls.held h (now (store .entry))) ⌝ }
+{
+    let number = checks::shape_number(h, store);
+    if number != 0 {
+        return checks::plain_answer(h, number);
+    }
+    if checks::words_sound(h, store) {
+        let size = h.size;
+        let count = h.count;
+        if normalise_entries(store, size, count) {
+            return checks::plain_answer(h, 0);
+        }
+        return checks::plain_answer(h, 9);
+    }
+    checks::plain_answer(h, 5)
+}
+
+// THE CALL: the entries above the cutoff are kept, and if any went, normalised. 1, 2, 5.
+pub fn truncate(h: Header, store: &mut [u64]) -> Answer
+    ensures { λ r. ⌜ Calls.gave r (now (store .exit)) ≡ Calls.step Calls.truncate (Calls.held h (now (store .entry))) ⌝ }
+{
+    let number = checks::shape_number(h, store);
+    if number != 0 {
+        return checks::plain_answer(h, number);
+    }
+    if checks::words_sound(h, store) {
+        let size = h.size;
+        let count = truncate_entries(store, size, h.count, h.cutoff);
+        let after = Header {
+            size,
+            count,
+            threshold: h.threshold,
+            cutoff: h.cutoff,
+            dirty: h.dirty,
+        };
+        return checks::plain_answer(after, 0);
+    }
+    checks::plain_answer(h, 5)
+}
