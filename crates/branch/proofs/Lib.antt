@@ -1,4 +1,3 @@
 pub mod Rows
-pub mod Copied
 pub mod Words
 pub mod Made

@@ -55,18 +55,6 @@ pub fn flip_rows(rows: &mut [u64], n: usize, m: BranchMutation)
     }
 }
 
-// The words of `from`, into as many of `to`.
-pub fn copy_words(to: &mut [u64], from: &[u64])
-    requires { ⌜ length (now to) ≡ length (now from) ⌝ }
-    ensures { λ _. ⌜ now (to .exit) ≡ now (from .entry) ⌝ }
-{
-    let mut j: usize = 0;
-    while j < from.len() {
-        to[j] = from[j];
-        j += 1;
-    }
-}
-
 // The entry that these words hold, changed in place: its rows flipped or a qubit lost or live again, and its phase-loss key
 // XORed with delta, the masks of what changes.
 pub fn change_entry(e: &mut [u64], size: Size, m: BranchMutation, delta: u64)
@@ -98,7 +86,7 @@ pub fn make_branch(
     requires { ⌜ Within size × (length (now parent) ≡ entryLen size) × (length (now out) ≡ entryLen size) × QubitsBelow 64 m × (delta ≡ masksOf usualSalts (size .n) m (entryOf size (now parent) .entry .body .rows)) ⌝ }
     ensures { λ _. ⌜ now (out .exit) ≡ wordsOf (reweighed keyedWeighed weight (changedKeyed usualSalts (size .n) m (entryOf size (now (parent .entry))))) ⌝ }
 {
-    copy_words(&mut out[..], parent);
+    words::copy_words(&mut out[..], parent);
     change_entry(&mut out[..], size, m, delta);
     out[0] = weight;
 }

@@ -1,20 +1,20 @@
 -- What `run` leaves is what the definition of a channel leaves. Assumes nothing.
 use mathlib.Core.Path.{_≡_, refl, sym, ap, ap₂, subst, _∙_}
-use mathlib.Core.Bool.{Bool, true, false, cond, true≢false}
-use mathlib.Core.List.{List, [], _∷_, map}
+use mathlib.Core.Bool.{Bool, true, false}
+use mathlib.Core.List.{List, [], map}
 use Prim.Native.Nat.{ℕ, zero, suc, _≤_, _<_}
 use native.Mathlib.Omega.{arith}
 use lib.Ieee.{Float}
 use lib.ListN.{length, take, getD, length-map}
 use Rattle.model.specs.Lists.{joined}
 use Rattle.model.specs.Floats.{float, oneBits, zeroBits, minus}
-use Rattle.model.specs.Entries.{Keyed, entryOf, stretch, listed, strip, pack}
+use Rattle.model.specs.Entries.{Keyed, entryOf, stretch, listed, strip}
 use Rattle.model.specs.Keys.{keyed, usualSalts}
-use Rattle.model.specs.Store.{Tally, begun, keyedWeighed, weightOf, reweighed, mergeAll, mergedSplit, testedAll, howMany, aboveCutoff}
-use Rattle.model.specs.Sum.{Result, done, refused, mapResult, finished}
+use Rattle.model.specs.Store.{Tally, begun, keyedWeighed, weightOf, mergeAll, mergedSplit, testedAll, howMany, aboveCutoff}
+use Rattle.model.specs.Sum.{Result, refused, mapResult, finished}
 use Rattle.model.specs.Channels as Channels
 use Rattle.model.specs.Channels.{Noise, totalRate, foldedTo, scaled, branchesOf, noiseSplit, noiseTally, withEntries, channelled}
-use Rattle.model.specs.Calls.{Call, noise, branching, Lent, Left, held, sumOf, rebuilt, rebuiltEntries, engine, act, left, gave, changedTo, accepted, plainAnswer, headerWith, refusedLeft, kindOf, dirtyAfter, wordsAfter, splitBy, testedBy}
+use Rattle.model.specs.Calls.{noise, branching, Lent, sumOf, rebuilt, rebuiltEntries, engine, act, left, gave, changedTo, accepted, plainAnswer, headerWith, kindOf, dirtyAfter, wordsAfter, splitBy, testedBy}
 use Rattle.model.specs.declared.Size.{Size}
 use Rattle.model.specs.declared.Header.{Header}
 use Rattle.model.proofs.Lists.{getD-mapped}
@@ -25,10 +25,11 @@ use Rattle.arms.specs.declared.Arms.{Arms}
 use Rattle.rebuild.specs.Saved.{withWeights, withKeyWords}
 use Rattle.rebuild.proofs.Restored as Restored
 use Rattle.rebuild.proofs.Slots.{same-store}
-use Rattle.noise.specs.Progress.{tallyOf, unweighed, scaledBy, branchesBy, FewCoefficients}
+use Rattle.merging.specs.Progress.{tallyOf, unweighed}
+use Rattle.noise.specs.Branches.{scaledBy, branchesBy, FewCoefficients}
 use Rattle.noise.specs.Finish.{keepBy, splitFor, merging, Spread, Finished, ending, Stands, readied, Readied, ranBy, putBack}
 use Rattle.noise.specs.declared.Ending.{Ending}
-use Rattle.noise.specs.declared.Progress.{Progress}
+use Rattle.merging.specs.declared.Progress.{Progress}
 use Rattle.noise.proofs.Split.{map-is, scaled-is, branches-of}
 
 -- ---- keys rebuilt

@@ -10,15 +10,14 @@ use lib.ListN.{length}
 use borrow.Author.Tests.{lt-ltb, le-ltb}
 use Rattle.model.specs.Entries.{Keyed, listed}
 use Rattle.model.specs.Store.{keyedWeighed}
-use Rattle.model.specs.Sum.{Result, done, refused, andThen, normalised, truncated, finished}
+use Rattle.model.specs.Sum.{done, refused, andThen, normalised, truncated, finished}
 use Rattle.model.specs.declared.Size.{Size}
 use Rattle.model.proofs.Entries.{length-listed}
 use Rattle.model.proofs.Packed.{Packed}
 use Rattle.weights.specs.Holds.{Normalised, Truncated}
 use Rattle.rebuild.specs.Saved.{withWeights, withKeyWords}
 use Rattle.noise.specs.Finish.{Renormalised, Finished, ending, putBack}
-use Rattle.noise.specs.declared.Ending.{Ending}
-use Rattle.noise.specs.declared.Progress.{Progress}
+use Rattle.merging.specs.declared.Progress.{Progress}
 
 module _ (s : Size) (p : Progress) (w : List ℕ) where
   pub some-dropped : {r : Bool} {w' : List ℕ} → 0 < p .dropped → Normalised s (p .count) w r w' → Renormalised s p w r w'

@@ -1,11 +1,11 @@
 -- The branch of a parent that stands in the store: its words, and what merging it leaves. Assumes nothing.
-use mathlib.Core.Path.{_≡_, refl, sym, ap, _∙_}
+use mathlib.Core.Path.{_≡_, sym, ap, _∙_}
 use mathlib.Core.List.{List, [], _∷_}
 use Prim.Native.Nat.{ℕ, _+_, _*_, _-_, _≤_, _<_}
 use native.Mathlib.Omega.{arith}
 use lib.Ieee.{Float}
 use lib.ListN.{length, take, drop, getD}
-use Rattle.model.specs.Entries.{headLen, coefsLen, entryLen, wordsOf, entryOf, stretch}
+use Rattle.model.specs.Entries.{headLen, coefsLen, entryLen, wordsOf, entryOf}
 use Rattle.model.specs.Keys.{usualSalts}
 use Rattle.model.specs.Changes.{masksOf}
 use Rattle.model.specs.declared.BranchMutation.{BranchMutation}
@@ -16,8 +16,8 @@ use Rattle.model.proofs.Entries.{part-tail}
 use Rattle.model.proofs.Packed.{Packed, within}
 use Rattle.branch.proofs.Made.{branchOf, made-count, made-entry, made-length}
 use Rattle.store.specs.Branch.{Branch}
-use Rattle.noise.specs.Progress.{Went}
-use Rattle.noise.specs.declared.Progress.{Progress}
+use Rattle.merging.specs.Progress.{Went}
+use Rattle.merging.specs.declared.Progress.{Progress}
 
 -- a listed entry lies in the store
 pub inside : (s : Size) (count i : ℕ) (w : List ℕ) → Packed s count w → i < count → i * entryLen s + entryLen s ≤ length w

@@ -1,4 +1,3 @@
-pub mod Went
 pub mod From
 pub mod Parents
 pub mod Scaled

@@ -1,9 +1,9 @@
 -- The branches of one parent: merging changes only weights, so a parent goes on giving the branches that it gave at first. Assumes nothing.
-use mathlib.Core.Path.{_≡_, refl, sym, ap, ap₂, _∙_}
+use mathlib.Core.Path.{_≡_, refl, sym, ap, _∙_}
 use mathlib.Core.Bool.{Bool, true, false, cond, true≢false}
 use mathlib.Core.List.{List, [], _∷_, _++_, map, map-append}
 use Prim.Native.Nat.{ℕ, zero, suc, _+_, _*_, _≤_, _<_}
-use native.Mathlib.Nat.{le-refl, le-trans}
+use native.Mathlib.Nat.{le-refl}
 use native.Mathlib.Numerals.{add-one}
 use native.Mathlib.Omega.{arith}
 use lib.Ieee.{Float, nan}
@@ -13,21 +13,22 @@ use Rattle.model.specs.Floats.{float, bits, times}
 use Rattle.model.specs.Entries.{Keyed, entryLen, entryOf, stretch, listed}
 use Rattle.model.specs.Keys.{usualSalts}
 use Rattle.model.specs.Changes.{changedKeyed, changedEntry}
-use Rattle.model.specs.Store.{Tally, keyedWeighed, reweighed, mergeAll, testedAll, howMany, aboveCutoff}
+use Rattle.model.specs.Store.{keyedWeighed, reweighed, mergeAll, testedAll, howMany}
 use Rattle.model.specs.Channels.{branchOf}
 use Rattle.model.specs.Calls.{engine}
 use Rattle.model.specs.declared.BranchMutation.{BranchMutation}
 use Rattle.model.specs.declared.Size.{Size}
-use Rattle.model.proofs.Entries.{length-listed, listed-at}
+use Rattle.model.proofs.Entries.{listed-at}
 use Rattle.model.proofs.Packed.{Packed}
 use Rattle.arms.specs.Arms.{mutationAt, armAt, armsBelow}
 use Rattle.arms.specs.declared.Arms.{Arms}
 use Rattle.arms.specs.declared.Shape.{Shape}
 use Rattle.arms.specs.declared.Shape.the-variants.{One, Lose, Two}
 use Rattle.keys.specs.Qubits.{QubitsBelow}
-use Rattle.noise.specs.Progress.{unweighed, Light, Went, ShapeBelow, parentAt, branchesBelow, liveAt, branchesBy, branchesUpTo, started}
-use Rattle.noise.specs.declared.Progress.{Progress}
-use Rattle.noise.proofs.Went.{all-there, two-runs}
+use Rattle.merging.specs.Progress.{unweighed, Light, Went, started}
+use Rattle.noise.specs.Branches.{ShapeBelow, parentAt, branchesBelow, liveAt, branchesBy, branchesUpTo}
+use Rattle.merging.specs.declared.Progress.{Progress}
+use Rattle.merging.proofs.Went.{all-there, two-runs}
 
 -- the qubits of a branch are those of its shape
 pub qubits-below : (m : ℕ) (h : Shape) (a : ℕ) → ShapeBelow m h → QubitsBelow m (mutationAt h a)

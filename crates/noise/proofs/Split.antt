@@ -3,27 +3,26 @@ use mathlib.Core.Path.{_≡_, refl, sym, ap, ap₂, _∙_}
 use mathlib.Core.Bool.{Bool, true, false, cond}
 use mathlib.Core.List.{List, [], _∷_, _++_, map, map-append, append-nil, append-assoc}
 use Prim.Native.Nat.{ℕ, zero, suc, _≤_, _<_}
-use native.Mathlib.Nat.{le-trans}
 use native.Mathlib.Omega.{arith}
 use lib.Dec.{eqb}
 use lib.Ieee.{Float}
 use lib.ListN.{length, take, getD}
 use lib.Seq.{take-suc, take-all, getD-take}
 use Rattle.model.specs.Lists.{every, joined}
-use Rattle.model.specs.Floats.{float, bits, times, minus, oneBits, zeroBits}
-use Rattle.model.specs.Entries.{Keyed, entryOf, stretch, listed}
+use Rattle.model.specs.Floats.{float, bits, times, minus, oneBits}
+use Rattle.model.specs.Entries.{Keyed, entryOf, listed}
 use Rattle.model.specs.Keys.{bit}
 use Rattle.model.specs.Store.{keyedWeighed, weightOf, reweighed}
 use Rattle.model.specs.Channels as Channels
-use Rattle.model.specs.Channels.{Noise, arms, qubits, totalRate, live, scaled, branchOf, branchesOf}
+use Rattle.model.specs.Channels.{Noise, totalRate, live, scaled, branchOf, branchesOf}
 use Rattle.model.specs.Calls.{engine}
 use Rattle.model.specs.declared.Size.{Size}
 use Rattle.model.proofs.Lists.{getD-mapped}
-use Rattle.model.proofs.Entries.{length-listed, listed-at}
+use Rattle.model.proofs.Entries.{listed-at}
 use Rattle.arms.specs.Arms.{armsList}
 use Rattle.arms.specs.declared.Arms.{Arms}
 use Rattle.arms.specs.declared.Shape.{Shape}
-use Rattle.noise.specs.Progress.{parentAt, branchesBelow, shapeQubits, liveAt, scaledBy, branchesBy, branchesUpTo}
+use Rattle.noise.specs.Branches.{parentAt, liveAt, scaledBy, branchesBy, branchesUpTo}
 use Rattle.noise.specs.Finish.{Stands}
 
 module _ (r : Arms) (c : Noise) (h : Stands r c) where

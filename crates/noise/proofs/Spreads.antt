@@ -2,7 +2,7 @@
 use mathlib.Core.Path.{_≡_, refl, sym, ap, ap₂, _∙_}
 use mathlib.Core.Bool.{Bool, true, false, cond}
 use mathlib.Core.List.{List, [], _∷_, map}
-use Prim.Native.Nat.{ℕ, _+_, _*_, _≤_, _<_}
+use Prim.Native.Nat.{ℕ}
 use native.Mathlib.Nat.{zero-add}
 use native.Mathlib.Omega.{arith}
 use lib.Ieee.{Float}
@@ -17,9 +17,10 @@ use Rattle.model.proofs.Lists.{getD-mapped}
 use Rattle.model.proofs.Entries.{length-listed, listed-at}
 use Rattle.arms.specs.declared.Arms.{Arms}
 use Rattle.arms.specs.declared.Shape.{Shape}
-use Rattle.noise.specs.Progress.{unweighed, Went, liveAt, scaledBy, branchesUpTo, started, FewCoefficients}
+use Rattle.merging.specs.Progress.{unweighed, Went, started}
+use Rattle.noise.specs.Branches.{liveAt, scaledBy, branchesUpTo, FewCoefficients}
 use Rattle.noise.specs.Finish.{keepBy, splitFor, Spread}
-use Rattle.noise.specs.declared.Progress.{Progress}
+use Rattle.merging.specs.declared.Progress.{Progress}
 use Rattle.noise.proofs.Parents.{same-count}
 use Rattle.noise.proofs.Split.{all-branches}
 

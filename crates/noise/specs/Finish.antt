@@ -19,9 +19,10 @@ use Rattle.model.proofs.Packed.{Packed}
 use Rattle.rebuild.specs.Saved.{withWeights, withKeyWords}
 use Rattle.arms.specs.Arms.{armsList}
 use Rattle.arms.specs.declared.Arms.{Arms}
-use Rattle.noise.specs.Progress.{tallyOf, unweighed, shapeQubits, scaledBy, branchesBy}
+use Rattle.merging.specs.Progress.{tallyOf, unweighed}
+use Rattle.noise.specs.Branches.{shapeQubits, scaledBy, branchesBy}
 use Rattle.noise.specs.declared.Ending.{Ending}
-use Rattle.noise.specs.declared.Progress.{Progress}
+use Rattle.merging.specs.declared.Progress.{Progress}
 
 -- normalised if anything was dropped: w became w', or 9 and no changed word
 pub record Renormalised (s : Size) (p : Progress) (w : List ℕ) (r : Bool) (w' : List ℕ) : Type 0 where

@@ -1,12 +1,12 @@
 // Channels: document 01, point 5 (noise.rs).
 use arms::Arms;
 use arms::Shape;
+use merging::Progress;
 use model::Answer;
 use model::BranchMutation;
 use model::Counts;
 use model::Header;
 use model::Size;
-use store::Fate;
 ghost use mathlib.Core.Path.{_≡_};
 ghost use mathlib.Core.Bool.{true};
 ghost use mathlib.Core.List.{[], _∷_, map};
@@ -20,59 +20,11 @@ ghost use Rattle.model.specs.Store.{keyedWeighed, weightOf, reweighed};
 ghost use Rattle.model.specs.Channels.{Noise};
 ghost use Rattle.model.specs.Calls as Calls;
 ghost use Rattle.keys.specs.Qubits.{QubitsBelow};
-ghost use Rattle.store.specs.Branch.{Branch};
 ghost use Rattle.model.proofs.Packed.{Packed};
 ghost use Rattle.rebuild.specs.Saved.{Became};
 ghost use Rattle.noise.specs.Finish.{Renormalised, Finished, putBack, Spread, Stands, Readied, ranBy};
-ghost use Rattle.noise.specs.Progress.{Went, Light, ShapeBelow, parentAt, branchesBelow, liveAt, scaledBy, branchesUpTo, started, FewCoefficients};
-
-// How far merging has come: the entries listed, what became of the branches, and whether one found no room.
-pub struct Progress {
-    pub count: usize,
-    pub merged: usize,
-    pub stored: usize,
-    pub dropped: usize,
-    pub compared: usize,
-    pub full: bool,
-}
-
-// One branch more. Once a branch has found no room, the rest is left.
-pub fn merge_branch(
-    store: &mut [u64],
-    size: Size,
-    threshold: f64,
-    cutoff: f64,
-    p: Progress,
-    branch: &[u64],
-) -> Progress
-    requires { ⌜ Packed size (p .count) (now store) ⌝ }
-    requires { ⌜ Branch size (now branch) × Light 65536 p ⌝ }
-    ensures { λ r. ⌜ Went size threshold cutoff (entryOf size (now (branch .entry)) ∷ []) p (now (store .entry)) r (now (store .exit)) ⌝ }
-{
-    if p.full {
-        return p;
-    }
-    let settled = store::merge_one(store, size, p.count, threshold, cutoff, branch);
-    let fate = settled.fate;
-    let mut next = p;
-    next.compared = p.compared + settled.compared;
-    match fate {
-        Fate::Merged => {
-            next.merged = p.merged + 1;
-        }
-        Fate::Stored => {
-            next.stored = p.stored + 1;
-            next.count = p.count + 1;
-        }
-        Fate::Dropped => {
-            next.dropped = p.dropped + 1;
-        }
-        Fate::NoRoom => {
-            next.full = true;
-        }
-    }
-    next
-}
+ghost use Rattle.merging.specs.Progress.{Went, Light, started};
+ghost use Rattle.noise.specs.Branches.{ShapeBelow, parentAt, branchesBelow, liveAt, scaledBy, branchesUpTo, FewCoefficients};
 
 // The branch of the parent at place i, with this weight, merged. It is made in `scratch`.
 pub fn branch_from(
@@ -94,7 +46,7 @@ pub fn branch_from(
     let parent = store::entry(store, size, i);
     let delta = keys::mutation_delta(keys::usual_salts(), size.n, &parent[rows..], m);
     branch::make_branch(&mut scratch[..], parent, size, m, weight, delta);
-    merge_branch(store, size, threshold, cutoff, p, scratch)
+    merging::merge_branch(store, size, threshold, cutoff, p, scratch)
 }
 
 // The branches of the parent at place i, in order, merged. `old` is the weight it had before it was scaled.

@@ -1,13 +1,12 @@
 -- The first slots of a store, and what is left when the others are emptied. Assumes nothing.
 use mathlib.Core.Path.{_≡_, refl, sym, ap, _∙_}
 use mathlib.Core.Bool.{true}
-use mathlib.Core.List.{List, [], _∷_, _++_, append-assoc, map, map-append}
-use Prim.Native.Nat.{ℕ, zero, suc, _+_, _*_, _-_, _≤_, _<_}
+use mathlib.Core.List.{List, _++_, append-assoc, map, map-append}
+use Prim.Native.Nat.{ℕ, zero, suc, _+_, _*_, _-_, _≤_}
 use native.Mathlib.Nat.{suc-mul, mul-le-mul-right}
-use native.Mathlib.Numerals.{add-one}
 use native.Mathlib.Omega.{arith}
-use lib.ListN.{length, take, drop, set, replicate, length-drop, length-map, length-replicate, replicate-append-replicate}
-use lib.Seq.{take-add, take-at, drop-at, take-all, take-suc-set, length-take-le}
+use lib.ListN.{length, take, drop, replicate, length-drop, length-map, length-replicate}
+use lib.Seq.{take-add, take-at, drop-at, length-take-le}
 use borrow.Rule.Slice.PartMut.{putMid, midOf, same-len-mid, post-is}
 use Rattle.model.specs.Lists.{groups, every}
 use Rattle.model.specs.Entries.{pack, entryLen, entryOf, listed, pastCount}
@@ -71,10 +70,3 @@ module _ (s : Size) (from count : ℕ) (w z : List ℕ) (h : Packed s count w) (
       let b : from * entryLen s ≤ count * entryLen s = mul-le-mul-right (entryLen s) l in
       let i : count * entryLen s ≤ length w = within s count w h in
       ap (map (entryOf s)) (groups-front (entryLen s) from w _ (omega arith)) ∙ listed-take s from count w l
-
--- a loop that writes 0: the first i words are 0
-pub zeros-next : (i : ℕ) (v : List ℕ) → i < length v → take i v ≡ replicate i 0 → take (i + 1) (set v i 0) ≡ replicate (i + 1) 0
-zeros-next i v h e = ap (λ (m : ℕ). take m (set v i 0)) (add-one i) ∙ take-suc-set v i 0 h ∙ ap (λ (l : List ℕ). l ++ 0 ∷ []) e ∙ replicate-append-replicate i 1 0
-
-pub zeros-end : (i m : ℕ) (v : List ℕ) → i ≡ m → length v ≡ m → take i v ≡ replicate i 0 → v ≡ replicate m 0
-zeros-end i m v p l e = sym (take-all i v (omega arith)) ∙ e ∙ ap (λ (k : ℕ). replicate k 0) p

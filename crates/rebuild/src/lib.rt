@@ -3,7 +3,7 @@ use model::Size;
 ghost use mathlib.Core.Path.{_≡_};
 ghost use mathlib.Core.List.{map};
 ghost use Prim.Native.Nat.{ℕ, _<_, _≤_};
-ghost use lib.ListN.{length, take, replicate};
+ghost use lib.ListN.{length, take};
 ghost use Rattle.model.specs.Entries.{entryLen, listed};
 ghost use Rattle.model.specs.Store.{keyedWeighed, weightOf};
 ghost use Rattle.model.specs.Calls.{rebuiltEntries};
@@ -131,17 +131,6 @@ pub fn restore_keys(
 
 // ---- slots emptied
 
-// Every word 0.
-pub fn clear(part: &mut [u64])
-    ensures { λ _. ⌜ now (part .exit) ≡ replicate (length (now (part .entry))) 0 ⌝ }
-{
-    let mut j = 0;
-    while j < part.len() {
-        part[j] = 0;
-        j += 1;
-    }
-}
-
 // The slots from `from` up to `count` are emptied: the store holds the first `from` entries, and no others.
 pub fn clear_from(store: &mut [u64], size: Size, from: usize, count: usize)
     requires { ⌜ Packed size count (now store) × (from ≤ count) ⌝ }
@@ -150,5 +139,5 @@ pub fn clear_from(store: &mut [u64], size: Size, from: usize, count: usize)
     let len = checks::entry_len(size);
     let start = from * len;
     let end = count * len;
-    clear(&mut store[start..end]);
+    words::clear(&mut store[start..end]);
 }

@@ -83,18 +83,6 @@ pub fn find(store: &[u64], size: Size, count: usize, threshold: f64, branch: &[u
 
 // ---- merging
 
-// The words into the slot, which is as long.
-pub fn copy_words(slot: &mut [u64], words: &[u64])
-    requires { ⌜ length (now slot) ≡ length (now words) ⌝ }
-    ensures { λ _. ⌜ now (slot .exit) ≡ now (words .entry) ⌝ }
-{
-    let mut j = 0;
-    while j < words.len() {
-        slot[j] = words[j];
-        j += 1;
-    }
-}
-
 // What becomes of a branch. NoRoom: it is above the cutoff and every slot is taken, so nothing is changed.
 pub enum Fate {
     Merged,
@@ -131,7 +119,7 @@ pub fn merge_one(
             if count < size.capacity {
                 let at = count * len;
                 let end = at + len;
-                copy_words(&mut store[at..end], branch);
+                words::copy_words(&mut store[at..end], branch);
                 return Settled {
                     fate: Fate::Stored,
                     compared: search.compared,

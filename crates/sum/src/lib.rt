@@ -4,7 +4,7 @@ use model::Header;
 use model::Size;
 ghost use mathlib.Core.Path.{_≡_};
 ghost use Prim.Native.Nat.{_*_, _<_, _≤_};
-ghost use lib.ListN.{length, replicate};
+ghost use lib.ListN.{length};
 ghost use Rattle.model.specs.Entries.{entryLen, rowsBelow, wordsOf};
 ghost use Rattle.model.specs.Keys.{usualSalts, keyed};
 ghost use Rattle.model.specs.Calls as Calls;
@@ -13,17 +13,6 @@ ghost use Rattle.checks.specs.Sized.{Within};
 
 // The bits of 1.
 const ONE: u64 = 0x3ff0_0000_0000_0000;
-
-// Every word 0.
-pub fn clear(part: &mut [u64])
-    ensures { λ _. ⌜ now (part .exit) ≡ replicate (length (now (part .entry))) 0 ⌝ }
-{
-    let mut i = 0;
-    while i < part.len() {
-        part[i] = 0;
-        i += 1;
-    }
-}
 
 // ---- a fresh entry
 
@@ -73,7 +62,7 @@ pub fn fresh_entry(e: &mut [u64], size: Size)
 {
     let n = size.n;
     let rows = 5 + 3 * size.k;
-    clear(&mut e[..rows]);
+    words::clear(&mut e[..rows]);
     fresh_rows(&mut e[rows..], n);
     let word_key = keys::word_key(&e[rows..], n);
     let phase_key = keys::phase_loss_key(keys::usual_salts(), n, &e[rows..], 0);
@@ -107,10 +96,10 @@ pub fn fresh(size: Size, threshold: f64, cutoff: f64, store: &mut [u64]) -> Answ
     if cutoff < 1.0 {
         let len = checks::entry_len(size);
         fresh_entry(&mut store[..len], size);
-        clear(&mut store[len..]);
+        words::clear(&mut store[len..]);
         header.count = 1;
         return checks::plain_answer(header, 0);
     }
-    clear(&mut store[..]);
+    words::clear(&mut store[..]);
     checks::plain_answer(header, 0)
 }

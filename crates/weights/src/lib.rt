@@ -6,7 +6,7 @@ ghost use mathlib.Core.Path.{_≡_};
 ghost use mathlib.Core.Bool.{true};
 ghost use mathlib.Core.List.{[], map};
 ghost use Prim.Native.Nat.{_<_, _≤_};
-ghost use lib.ListN.{length, getD, set, replicate};
+ghost use lib.ListN.{getD, set};
 ghost use Rattle.model.specs.Floats.{finiteFromZero};
 ghost use Rattle.model.specs.Entries.{entryOf, listed};
 ghost use Rattle.model.specs.Store.{keyedWeighed};
@@ -65,17 +65,6 @@ pub fn normalise_entries(store: &mut [u64], size: Size, count: usize) -> bool
 
 // ---- truncate
 
-// Every word 0.
-fn clear(part: &mut [u64])
-    ensures { λ _. ⌜ now (part .exit) ≡ replicate (length (now (part .entry))) 0 ⌝ }
-{
-    let mut i = 0;
-    while i < part.len() {
-        part[i] = 0;
-        i += 1;
-    }
-}
-
 // The entry at place `from` written over the one at place `to`: all its words, so its keys move with it.
 fn move_entry(store: &mut [u64], size: Size, count: usize, from: usize, to: usize)
     requires { ⌜ Packed size count (now store) × (from < count) × (to ≤ from) ⌝ }
@@ -112,7 +101,7 @@ fn keep_above(store: &mut [u64], size: Size, count: usize, cutoff: f64) -> usize
     }
     let at = j * len;
     let end = count * len;
-    clear(&mut store[at..end]);
+    words::clear(&mut store[at..end]);
     j
 }
 

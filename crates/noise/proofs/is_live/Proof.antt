@@ -7,7 +7,7 @@ use borrow.Author.Tests.{eq-eqb, ne-eqb}
 use Rattle.model.specs.Lists.{every}
 use Rattle.model.specs.Keys.{bit}
 use Rattle.arms.specs.declared.Shape.{Shape}
-use Rattle.noise.specs.Progress.{ShapeBelow, liveAt, shapeQubits}
+use Rattle.noise.specs.Branches.{ShapeBelow, liveAt, shapeQubits}
 use borrow.Author.Needs.{needs}
 use Rattle.noise.proofs.is_live.Statement.{statement}
 use Rattle.noise.proofs.is_live.Tie as tie

@@ -6,7 +6,8 @@ use borrow.Author.Needs.{needs}
 use denote.Ref.{now}
 use lib.ListN.{length}
 use Rattle.model.specs.Entries.{entryOf, stretch}
-use Rattle.noise.specs.Progress.{Went, parentAt, branchesBelow}
+use Rattle.merging.specs.Progress.{Went}
+use Rattle.noise.specs.Branches.{parentAt, branchesBelow}
 use Rattle.noise.proofs.Parents.{qubits-below, no-branch, branch-merged, light, as-before}
 use Rattle.noise.proofs.merge_arms.Statement.{statement}
 use Rattle.noise.proofs.merge_arms.Tie as tie

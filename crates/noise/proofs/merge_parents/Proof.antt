@@ -8,7 +8,8 @@ use denote.Ref.{now}
 use lib.ListN.{length}
 use Rattle.model.specs.Entries.{entryOf, stretch}
 use Rattle.rebuild.proofs.Turns.{limits, slot-end}
-use Rattle.noise.specs.Progress.{Went, liveAt, branchesUpTo, started}
+use Rattle.merging.specs.Progress.{Went, started}
+use Rattle.noise.specs.Branches.{liveAt, branchesUpTo}
 use Rattle.noise.proofs.Parents.{none-done, parent-done, parent-lost, few-so-far, loss-word, same-count, still-there}
 use Rattle.noise.proofs.merge_parents.Statement.{statement}
 use Rattle.noise.proofs.merge_parents.Tie as tie

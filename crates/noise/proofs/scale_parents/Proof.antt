@@ -7,7 +7,7 @@ use borrow.Author.Needs.{needs}
 use Rattle.model.specs.Entries.{listed}
 use Rattle.model.proofs.Entries.{length-listed}
 use Rattle.rebuild.proofs.Turns.{Done, changedBelow, begin, turn, below-all, limits, slots-end, slot-end, part-length}
-use Rattle.noise.specs.Progress.{scaledBy}
+use Rattle.noise.specs.Branches.{scaledBy}
 use Rattle.noise.proofs.scale_parents.Statement.{statement}
 use Rattle.noise.proofs.scale_parents.Tie as tie
 

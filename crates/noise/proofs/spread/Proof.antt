@@ -11,7 +11,7 @@ use Rattle.model.specs.Floats.{float, oneBits, minus}
 use Rattle.model.specs.Entries.{listed, entryLen}
 use Rattle.model.specs.declared.Size.{Size}
 use Rattle.model.proofs.Shape.{Sized}
-use Rattle.noise.specs.Progress.{scaledBy}
+use Rattle.noise.specs.Branches.{scaledBy}
 use Rattle.noise.proofs.Spreads.{still-few, spread-is}
 use borrow.Author.Needs.{needs}
 use Rattle.noise.proofs.spread.Statement.{statement}

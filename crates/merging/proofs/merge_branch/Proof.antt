@@ -1,4 +1,4 @@
--- `noise::merge_branch` meets its contract, by the branch's fate. Assumes nothing.
+-- `merging::merge_branch` meets its contract, by the branch's fate. Assumes nothing.
 use mathlib.Core.Path.{_≡_, sym, ap, _∙_}
 use mathlib.Core.Bool.{Bool, true, false}
 use Prim.Native.Nat.{ℕ, _≤_, _+_, _*_}
@@ -6,11 +6,11 @@ use native.Mathlib.Omega.{arith}
 use denote.Ref.{now}
 use Rattle.model.specs.Entries.{entryOf}
 use Rattle.store.specs.declared.Fate.the-variants.{Merged, Stored, Dropped, NoRoom}
-use Rattle.noise.specs.Progress.{after}
-use Rattle.noise.proofs.Went.{one-branch, left-alone, few-tested}
+use Rattle.merging.specs.Progress.{after}
+use Rattle.merging.proofs.Went.{one-branch, left-alone, few-tested}
 use borrow.Author.Needs.{needs}
-use Rattle.noise.proofs.merge_branch.Statement.{statement}
-use Rattle.noise.proofs.merge_branch.Tie as tie
+use Rattle.merging.proofs.merge_branch.Statement.{statement}
+use Rattle.merging.proofs.merge_branch.Tie as tie
 
 returns : tie.Need-returns
 returns c = let a = c .before .before .before .args in left-alone (a .size) (a .threshold) (a .cutoff) (entryOf (a .size) (now (a .branch))) (a .p) (now (a .store)) (c .before .before .before .pre .0) (c .if1 .taken)

@@ -1,8 +1,8 @@
 -- Merging branches, one after the other: what one branch leaves, and two runs of branches in a row. Assumes nothing.
-use mathlib.Core.Path.{_≡_, refl, sym, ap, ap₂, _∙_}
+use mathlib.Core.Path.{_≡_, refl, sym, ap, _∙_}
 use mathlib.Core.Bool.{Bool, true, false, true≢false}
 use mathlib.Core.List.{List, [], _∷_, _++_, map}
-use Prim.Native.Nat.{ℕ, zero, suc, _+_, _*_, _≤_, _<_}
+use Prim.Native.Nat.{ℕ, zero, suc, _+_, _≤_, _<_}
 use native.Mathlib.Nat.{add-zero, le-refl, le-trans}
 use native.Mathlib.Omega.{arith}
 use lib.Ieee.{Float}
@@ -10,7 +10,7 @@ use lib.ListN.{length, take, length-append}
 use lib.Seq.{take-all, take-take}
 use Rattle.model.specs.Entries.{Keyed, listed}
 use Rattle.model.specs.Keys.{usualSalts}
-use Rattle.model.specs.Store.{Tally, begun, keyedWeighed, reweighed, walk, merge, mergeAll, testedAll, howMany, aboveCutoff}
+use Rattle.model.specs.Store.{Tally, keyedWeighed, reweighed, merge, mergeAll, testedAll, howMany, aboveCutoff}
 use Rattle.model.specs.Calls.{engine}
 use Rattle.model.specs.declared.Size.{Size}
 use Rattle.model.proofs.Entries.{length-listed}
@@ -22,8 +22,8 @@ use Rattle.store.specs.declared.Fate.the-variants.{Merged, Stored, Dropped, NoR
 use Rattle.store.specs.declared.Settled.{Settled}
 use Rattle.store.proofs.Walk.{tested-few}
 use Rattle.store.proofs.Merge.{added, merge-adds}
-use Rattle.noise.specs.Progress.{tallyOf, unweighed, Went, after}
-use Rattle.noise.specs.declared.Progress.{Progress}
+use Rattle.merging.specs.Progress.{tallyOf, unweighed, Went, after}
+use Rattle.merging.specs.declared.Progress.{Progress}
 
 -- a weight that is set aside is not seen
 blind : (w : ℕ) (e : Keyed) → unweighed (reweighed keyedWeighed w e) ≡ unweighed e
