@@ -1,2 +1,3 @@
 pub mod Tables
 pub mod Rates
+pub mod Qubits

@@ -6,13 +6,13 @@ use native.Mathlib.Numerals.{add-one}
 use native.Mathlib.Nat.{not-suc-le-zero}
 use native.Mathlib.Omega.{arith}
 use lib.Ieee.{Float, nan}
-use lib.ListN.{length, getD, drop, drop-of-length-le}
+use lib.ListN.{length, getD, drop, replicate, drop-of-length-le}
 use lib.Seq.{drop-cons}
-use Rattle.model.specs.Floats.{float, zeroBits, plus}
-use Rattle.model.specs.Channels.{Arm, arm, Pair, pairArms, pauliPairs, foldedTo}
+use Rattle.model.specs.Floats.{float, zeroBits, plus, over}
+use Rattle.model.specs.Channels.{Arm, arm, Pair, two, depolarize2, arms, qubits, pairArms, pauliPairs, foldedTo}
 use Rattle.model.specs.declared.Pauli.{Pauli}
 use Rattle.model.specs.declared.Pauli.the-variants.{I, X, Y, Z}
-use Rattle.arms.specs.Arms.{pauliAt, mutationAt, armAt, armsBelow, armsList}
+use Rattle.arms.specs.Arms.{pauliAt, mutationAt, armAt, armsBelow, armsList, shapeQubits, Stands}
 use Rattle.arms.specs.declared.Shape.the-variants.{Two}
 use Rattle.arms.specs.declared.Arms.{Arms}
 
@@ -55,6 +55,15 @@ spread-is (suc n) i l e =
 pub pairs-are : (rates : List Float) (p q : ℕ) → length rates ≡ 15 → armsList (record { rates = rates; count = 15; shape = Two p q }) ≡ pairArms p q pauliPairs rates
 unfolding armsList armsBelow mutationAt pauliAt pairArms pauliPairs spread
 pairs-are rates p q e = ap (pairArms p q pauliPairs) (spread-is 15 0 rates (omega arith))
+
+-- they are the two-qubit Pauli's, and with equal parts depolarize2's
+pub pairs-stand : (rates : List Float) (p q : ℕ) → length rates ≡ 15 → Stands (record { rates = rates; count = 15; shape = Two p q }) (two rates p q)
+unfolding arms qubits shapeQubits
+pairs-stand rates p q e = record { few = omega arith; rates = pairs-are rates p q e; places = refl }
+
+pub parts-stand : (rate : Float) (p q : ℕ) → Stands (record { rates = replicate 15 (over rate (float 0x402e_0000_0000_0000)); count = 15; shape = Two p q }) (depolarize2 rate p q)
+unfolding arms qubits shapeQubits
+parts-stand rate p q = record { few = omega arith; rates = pairs-are (replicate 15 (over rate (float 0x402e_0000_0000_0000))) p q refl; places = refl }
 
 -- the rates added up, one more
 pub total-next : (r : Arms) (a : ℕ) (t : Float) → t ≡ foldedTo (float zeroBits) (armsBelow r a) → plus t (getD (r .rates) a nan) ≡ foldedTo (float zeroBits) (armsBelow r (a + 1))

@@ -1,9 +1,10 @@
 -- The branches that the struct `Arms` stands for. Assumes nothing.
-use Prim.Native.Nat.{ℕ, zero, suc, _+_, _/_, _%_}
+use Prim.Native.Nat.{ℕ, zero, suc, _+_, _/_, _%_, _<_, _≤_}
+use mathlib.Core.Path.{_≡_}
 use mathlib.Core.List.{List, [], _∷_, _++_}
 use lib.Ieee.{nan}
 use lib.ListN.{getD}
-use Rattle.model.specs.Channels.{Arm, arm}
+use Rattle.model.specs.Channels.{Noise, Arm, arm, arms, qubits}
 use Rattle.model.specs.declared.Pauli.{Pauli}
 use Rattle.model.specs.declared.Pauli.the-variants.{I, X, Y, Z}
 use Rattle.model.specs.declared.BranchMutation.{BranchMutation}
@@ -34,3 +35,22 @@ armsBelow r (suc m) = armsBelow r m ++ armAt r m ∷ []
 
 unfoldable pub armsList : Arms → List Arm
 armsList r = armsBelow r (r .count)
+
+-- ---- the qubits that a shape names
+
+unfoldable pub shapeQubits : Shape → List ℕ
+shapeQubits (One q) = q ∷ []
+shapeQubits (Lose q) = q ∷ []
+shapeQubits (Two p q) = p ∷ q ∷ []
+
+-- each is below m
+abbrev pub ShapeBelow : ℕ → Shape → Type 0
+ShapeBelow m (One q) = q < m
+ShapeBelow m (Lose q) = q < m
+ShapeBelow m (Two p q) = (p < m) × (q < m)
+
+-- the branches of a noise, and its qubits
+pub record Stands (r : Arms) (c : Noise) : Type 0 where
+  pub few : r .count ≤ 15
+  pub rates : armsList r ≡ arms c
+  pub places : shapeQubits (r .shape) ≡ qubits c

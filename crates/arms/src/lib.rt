@@ -9,7 +9,7 @@ ghost use lib.ListN.{length, getD};
 ghost use Rattle.model.specs.Floats.{upTo, float, oneBits};
 ghost use Rattle.model.specs.Channels as Channels;
 ghost use Rattle.model.specs.Lists.{every};
-ghost use Rattle.model.specs.Numbers.{rates};
+ghost use Rattle.model.specs.Numbers.{rates, someNotBelow};
 ghost use Rattle.arms.specs.Arms as Spec;
 
 // On which qubits, and by what: Paulis at one qubit, its loss, pairs of Paulis at two.
@@ -58,7 +58,7 @@ pub fn mutation_at(shape: Shape, a: usize) -> BranchMutation
 
 // Three Pauli rates at a qubit.
 pub fn pauli_arms(x: f64, y: f64, z: f64, q: usize) -> Arms
-    ensures { λ r. ⌜ Spec.armsList r ≡ Channels.pauliArms x y z q ⌝ }
+    ensures { λ r. ⌜ Spec.Stands r (Channels.one (Channel.Pauli x y z) q) ⌝ }
 {
     let mut rates = [0.0f64; 15];
     rates[0] = x;
@@ -73,7 +73,7 @@ pub fn pauli_arms(x: f64, y: f64, z: f64, q: usize) -> Arms
 
 // The loss of a qubit.
 pub fn loss_arms(p: f64, q: usize) -> Arms
-    ensures { λ r. ⌜ Spec.armsList r ≡ Channels.channelArms (Channel.Loss p) q ⌝ }
+    ensures { λ r. ⌜ Spec.Stands r (Channels.one (Channel.Loss p) q) ⌝ }
 {
     let mut rates = [0.0f64; 15];
     rates[0] = p;
@@ -86,7 +86,7 @@ pub fn loss_arms(p: f64, q: usize) -> Arms
 
 // The branches of a channel on one qubit.
 pub fn channel_arms(channel: Channel, q: usize) -> Arms
-    ensures { λ r. ⌜ Spec.armsList r ≡ Channels.channelArms channel q ⌝ }
+    ensures { λ r. ⌜ Spec.Stands r (Channels.one channel q) ⌝ }
 {
     match channel {
         Channel::Pauli(x, y, z) => pauli_arms(x, y, z, q),
@@ -100,8 +100,21 @@ pub fn channel_arms(channel: Channel, q: usize) -> Arms
 
 // The branches of pairs of Paulis, each with its rate.
 pub fn pair_arms(rates: [f64; 15], p: usize, q: usize) -> Arms
-    ensures { λ r. ⌜ Spec.armsList r ≡ Channels.pairArms p q Channels.pauliPairs rates ⌝ }
+    ensures { λ r. ⌜ Spec.Stands r (Channels.two rates p q) ⌝ }
 {
+    Arms {
+        rates,
+        count: 15,
+        shape: Shape::Two(p, q),
+    }
+}
+
+// The same rate for each pair: a part in fifteen.
+pub fn depolarize2_arms(rate: f64, p: usize, q: usize) -> Arms
+    ensures { λ r. ⌜ Spec.Stands r (Channels.depolarize2 rate p q) ⌝ }
+{
+    let part = rate / 15.0;
+    let rates = [part; 15];
     Arms {
         rates,
         count: 15,
@@ -123,6 +136,24 @@ pub fn total_rate(arms: Arms) -> f64
         a += 1;
     }
     t
+}
+
+// ---- number 3
+
+// A qubit is not below n.
+pub fn outside(n: usize, shape: Shape) -> bool
+    ensures { λ r. ⌜ r ≡ someNotBelow n (Spec.shapeQubits shape) ⌝ }
+{
+    match shape {
+        Shape::One(q) => n <= q,
+        Shape::Lose(q) => n <= q,
+        Shape::Two(p, q) => {
+            if n <= p {
+                return true;
+            }
+            n <= q
+        }
+    }
 }
 
 // ---- number 4

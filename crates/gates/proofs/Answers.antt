@@ -1,29 +1,26 @@
 -- One law for each answer of `gate` to a sum that numbers 1 and 2 let through. Assumes nothing.
 use mathlib.Core.Path.{_≡_, sym, ap, ap₂, _∙_}
-use mathlib.Core.Bool.{Bool, true, false, not, _&&_}
+use mathlib.Core.Bool.{Bool, true, false}
 use mathlib.Core.List.{List, map}
 use Prim.Native.Nat.{ℕ}
 use native.Mathlib.Omega.{arith}
 use lib.ListN.{length}
-use Rattle.model.specs.Entries.{Keyed, strip, listed, pack}
+use Rattle.model.specs.Entries.{Keyed, listed, pack}
 use Rattle.model.specs.Store.{keyedWeighed, testedAll, howMany}
 use Rattle.model.specs.Gates.{turned}
-use Rattle.model.specs.Numbers.{firstOf, entriesSound}
-use Rattle.model.specs.Calls.{Lent, Left, gate, argumentTests, tests, act, kindOf, rebuilt, dirtyAfter, wordsAfter, splitBy, testedBy, gave, plainAnswer, headerWith, accepted, left, shape, padded, refusedLeft, step}
+use Rattle.model.specs.Numbers.{firstOf}
+use Rattle.model.specs.Calls.{Lent, Left, gate, argumentTests, tests, act, kindOf, rebuilt, dirtyAfter, wordsAfter, splitBy, testedBy, gave, plainAnswer, headerWith, accepted, left, shape, refusedLeft, step}
 use Rattle.model.specs.declared.Gate.{Gate}
-use Rattle.model.proofs.Lists.{and-both}
 use Rattle.model.proofs.Entries.{length-listed}
-use Rattle.model.proofs.Packed.{Packed, packed, packed-is}
+use Rattle.model.proofs.Packed.{Packed, packed-is}
+use Rattle.model.proofs.Sound.{sound, sound-packed}
 use Rattle.model.proofs.Steps.{refused-tests, acted}
 use Rattle.gates.specs.Qubits.{GateBelow}
 use Rattle.gates.proofs.Qubits.{refuses, accepted-below, below-more}
 
--- what `qubits_refused` and `words_sound` answer
+-- what `qubits_refused` answers
 abbrev pub unfit : Lent → Gate → Bool
 unfit x g = refuses (x .header .size .n) g
-
-abbrev pub sound : Lent → Bool
-sound x = padded x && entriesSound (x .header .size) (map strip (listed (x .header .size) (x .header .count) (x .words)))
 
 module _ (x : Lent) (g : Gate) (s : firstOf (shape x) ≡ 0) where
   -- 3: a qubit is not below n, or both are the same
@@ -40,7 +37,7 @@ module _ (x : Lent) (g : Gate) (s : firstOf (shape x) ≡ 0) where
     -- else every entry can be turned
     pub ready : sound x ≡ true → Packed (x .header .size) (x .header .count) (x .words) × GateBelow 64 g
     ready h =
-        let p = packed x s (and-both (padded x) (entriesSound (x .header .size) (map strip (listed (x .header .size) (x .header .count) (x .words)))) h .0) in
+        let p = sound-packed x s h in
         (p, below-more (x .header .size .n) 64 g (p .sized .qubits .high) (accepted-below (x .header .size .n) g e))
 
     -- 0: the store holds the turned entries, and the sum is dirty

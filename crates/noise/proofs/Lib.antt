@@ -1,7 +1,3 @@
-pub mod From
-pub mod Parents
-pub mod Scaled
-pub mod Split
 pub mod Ends
-pub mod Spreads
-pub mod Channel
+pub mod Ran
+pub mod Answers

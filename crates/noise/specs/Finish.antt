@@ -1,26 +1,19 @@
 -- How a channel ends, once its branches are merged. Assumes nothing.
-use Prim.Native.Nat.{ℕ, zero, suc, _≤_, _<_}
+use Prim.Native.Nat.{ℕ, zero, suc}
 use mathlib.Core.Path.{_≡_}
 use mathlib.Core.Bool.{Bool, true, false, cond}
 use mathlib.Core.List.{List, map}
 use lib.Dec.{ltb}
 use lib.Ieee.{Float}
 use lib.ListN.{length, take}
-use Rattle.model.specs.Lists.{joined}
-use Rattle.model.specs.Floats.{float, oneBits, zeroBits, minus}
 use Rattle.model.specs.Entries.{Keyed, listed}
-use Rattle.model.specs.Keys.{usualSalts}
-use Rattle.model.specs.Store.{keyedWeighed, Tally, Split, begun, mergeAll, testedAll, howMany, aboveCutoff}
-use Rattle.model.specs.Channels.{Noise, arms, qubits, foldedTo}
+use Rattle.model.specs.Store.{keyedWeighed}
+use Rattle.model.specs.Channels.{Noise}
 use Rattle.model.specs.Calls.{noise, branching, Lent, Left, engine, sumOf, rebuilt, rebuiltEntries, act, left}
 use Rattle.model.specs.Sum.{Result, done, refused, normalised, finished}
 use Rattle.model.specs.declared.Size.{Size}
 use Rattle.model.proofs.Packed.{Packed}
 use Rattle.rebuild.specs.Saved.{withWeights, withKeyWords}
-use Rattle.arms.specs.Arms.{armsList}
-use Rattle.arms.specs.declared.Arms.{Arms}
-use Rattle.merging.specs.Progress.{tallyOf, unweighed}
-use Rattle.noise.specs.Branches.{shapeQubits, scaledBy, branchesBy}
 use Rattle.noise.specs.declared.Ending.{Ending}
 use Rattle.merging.specs.declared.Progress.{Progress}
 
@@ -46,34 +39,7 @@ pub record Finished (s : Size) (cutoff : Float) (p : Progress) (w : List ℕ) (r
 abbrev pub putBack : Bool → (saved words phases : List ℕ) → List Keyed → List Keyed
 putBack dirty saved words phases es = cond dirty (withKeyWords words phases (withWeights saved es)) (withWeights saved es)
 
--- ---- before it ends
-
--- what is left of a live entry
-abbrev pub keepBy : Arms → Float
-keepBy r = minus (float oneBits) (foldedTo (float zeroBits) (armsList r))
-
--- the branches of the entries es, and these scaled
-abbrev pub splitFor : Size → Float → Arms → List Keyed → Split Keyed
-splitFor s threshold r es = record { stay = map (scaledBy (r .shape) (keepBy r)) es; branches = joined (map (branchesBy s threshold r) es) }
-
-abbrev pub merging : Size → Float → Float → Split Keyed → Tally Keyed
-merging s threshold cutoff p = mergeAll (engine s threshold) (aboveCutoff cutoff) (p .branches) (begun (p .stay))
-
--- the entries es were scaled and their branches merged, which left p and w
-pub record Spread (s : Size) (threshold cutoff : Float) (r : Arms) (es : List Keyed) (p : Progress) (w : List ℕ) : Type 0 where
-  pub packed : Packed s (p .count) w
-  pub grows : length es ≤ p .count
-  pub front : map unweighed (take (length es) (listed s (p .count) w)) ≡ map unweighed es
-  pub tally : p .full ≡ false → tallyOf s p w ≡ merging s threshold cutoff (splitFor s threshold r es)
-  pub compared : p .full ≡ false → p .compared ≡ howMany (testedAll usualSalts s threshold (aboveCutoff cutoff) (splitFor s threshold r es .branches) (begun (splitFor s threshold r es .stay)))
-  pub overflow : p .full ≡ true → s .capacity < length (merging s threshold cutoff (splitFor s threshold r es) .entries)
-
 -- ---- a channel
-
--- the arms of a noise, and the qubits that must be live
-pub record Stands (r : Arms) (c : Noise) : Type 0 where
-  pub rates : armsList r ≡ arms c
-  pub places : shapeQubits (r .shape) ≡ qubits c
 
 -- the entries that a channel works on: a dirty sum's keys are rebuilt
 abbrev pub readied : Size → Bool → List Keyed → List Keyed

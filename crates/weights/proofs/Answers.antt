@@ -1,20 +1,18 @@
 -- One law for each answer of `normalise` and `truncate` to a sum that numbers 1 and 2 let through. Assumes nothing.
 use mathlib.Core.Path.{_≡_, refl, sym, ap, _∙_}
-use mathlib.Core.Bool.{Bool, true, false, _&&_}
-use mathlib.Core.List.{List, [], map}
+use mathlib.Core.Bool.{true, false}
+use mathlib.Core.List.{List, []}
 use Prim.Native.Nat.{ℕ}
 use native.Mathlib.Omega.{arith}
-use Rattle.model.specs.Floats.{finiteFromZero}
-use Rattle.model.specs.Entries.{Keyed, strip, listed}
+use Rattle.model.specs.Entries.{Keyed, listed}
 use Rattle.model.specs.Store.{begun, testedAll, howMany}
 use Rattle.model.specs.Sum.{done, refused, mapResult}
-use Rattle.model.specs.Numbers.{firstOf, boundsSound, entriesSound}
-use Rattle.model.specs.Calls.{Call, normalise, truncate, Sum, moving, Lent, sumOf, changedTo, engine, argumentTests, tests, act, kindOf, rebuilt, splitBy, testedBy, dirtyAfter, wordsAfter, headerWith, plainAnswer, accepted, gave, refusedLeft, left, shape, padded, step}
+use Rattle.model.specs.Numbers.{firstOf}
+use Rattle.model.specs.Calls.{Call, normalise, truncate, Sum, moving, Lent, sumOf, changedTo, engine, argumentTests, tests, act, kindOf, rebuilt, splitBy, testedBy, dirtyAfter, wordsAfter, headerWith, plainAnswer, accepted, gave, refusedLeft, left, shape, step}
 use Rattle.model.specs.declared.Size.{Size}
 use Rattle.model.proofs.Entries.{length-listed}
 use Rattle.model.proofs.Packed.{Packed, packed, packed-is}
-use Rattle.model.proofs.Shape.{shaped}
-use Rattle.model.proofs.Lists.{and-both}
+use Rattle.model.proofs.Sound.{sound}
 use Rattle.model.proofs.Steps.{refused-tests, acted, five, five-not}
 use Rattle.weights.specs.Holds.{Normalised, Truncated}
 
@@ -31,18 +29,6 @@ normalises = record { kind = refl; no-tests = λ s n. refl; no-comparison = λ m
 truncates : Moves truncate
 unfolding kindOf argumentTests testedBy splitBy testedAll
 truncates = record { kind = refl; no-tests = λ s n. refl; no-comparison = λ m. refl }
-
--- what `words_sound` answers
-abbrev pub sound : Lent → Bool
-sound x = padded x && entriesSound (x .header .size) (map strip (listed (x .header .size) (x .header .count) (x .words)))
-
--- what the tests leave
-pub sound-packed : (x : Lent) → firstOf (shape x) ≡ 0 → sound x ≡ true → Packed (x .header .size) (x .header .count) (x .words)
-sound-packed x s e = packed x s (and-both (padded x) (entriesSound (x .header .size) (map strip (listed (x .header .size) (x .header .count) (x .words)))) e .0)
-
-pub sound-cutoff : (x : Lent) → firstOf (shape x) ≡ 0 → finiteFromZero (x .header .cutoff) ≡ true
-unfolding boundsSound
-sound-cutoff x s = and-both (finiteFromZero (x .header .threshold)) (finiteFromZero (x .header .cutoff)) (shaped x s .bounds) .1
 
 module _ (c : Call) (m : Moves c) (x : Lent) (s : firstOf (shape x) ≡ 0) where
   -- 5: some word is not sound

@@ -1,7 +1,8 @@
 -- `arms::pauli_arms` meets its contract: three branches, X, Y and Z. Assumes nothing.
 use mathlib.Core.Path.{refl}
-use Rattle.arms.specs.Arms.{armsList, armsBelow, mutationAt, pauliAt}
-use Rattle.model.specs.Channels.{pauliArms}
+use native.Mathlib.Omega.{arith}
+use Rattle.arms.specs.Arms.{armsList, armsBelow, mutationAt, pauliAt, shapeQubits}
+use Rattle.model.specs.Channels.{arms, qubits, channelArms, pauliArms}
 use borrow.Author.Needs.{needs}
 use Rattle.arms.proofs.pauli_arms.Statement.{statement}
 use Rattle.arms.proofs.pauli_arms.Tie as tie
@@ -16,8 +17,8 @@ array-write-rates-3 : tie.Need-array-write-rates-3
 array-write-rates-3 c = search needs
 
 returns : tie.Need-returns
-unfolding armsList armsBelow mutationAt pauliAt pauliArms
-returns c = refl
+unfolding armsList armsBelow mutationAt pauliAt shapeQubits arms qubits channelArms pauliArms
+returns c = record { few = omega arith; rates = refl; places = refl }
 
 pub pauli-arms-spec : {M : Type 1} → statement M
 pauli-arms-spec =

@@ -6,7 +6,8 @@ use Rattle.model.specs.Numbers.{firstOf}
 use Rattle.model.specs.Calls.{Lent, Left, held, gave, gate, shape, plainAnswer, refusedLeft}
 use Rattle.model.specs.declared.Answer.{Answer}
 use Rattle.model.proofs.Steps.{refused-shape}
-use Rattle.gates.proofs.Answers.{unfit, sound, misplaced, unsound, ready, all-turned}
+use Rattle.model.proofs.Sound.{sound}
+use Rattle.gates.proofs.Answers.{unfit, misplaced, unsound, ready, all-turned}
 use borrow.Author.Needs.{needs}
 use Rattle.gates.proofs.gate.Statement.{statement}
 use Rattle.gates.proofs.gate.Tie as tie

@@ -1,5 +1,4 @@
 -- `noise::finish` meets its contract. Assumes nothing.
-use mathlib.Core.Path.{_≡_, refl, sym, ap, _∙_}
 use denote.Ref.{now}
 use Rattle.noise.proofs.Ends.{no-room-left, ended, nothing-left}
 use borrow.Author.Needs.{needs}

@@ -1,6 +1,6 @@
 -- `noise::ready` meets its contract. Assumes nothing.
-use mathlib.Core.Path.{_≡_, refl, sym, ap, _∙_}
-use mathlib.Core.Bool.{Bool, true, false, true≢false}
+use mathlib.Core.Path.{sym, ap, _∙_}
+use mathlib.Core.Bool.{Bool, true≢false}
 use denote.Ref.{now}
 use Rattle.model.specs.Entries.{listed}
 use Rattle.noise.specs.Finish.{readied}

@@ -1,5 +1,4 @@
 -- `noise::renormalise` meets its contract. Assumes nothing.
-use mathlib.Core.Path.{_≡_, refl, sym, ap, _∙_}
 use denote.Ref.{now}
 use Rattle.noise.proofs.Ends.{some-dropped, none-dropped}
 use borrow.Author.Needs.{needs}

@@ -1,14 +1,9 @@
 -- `noise::run` meets its contract. Assumes nothing.
-use mathlib.Core.Path.{_≡_, refl, sym, ap, _∙_}
-use mathlib.Core.Bool.{Bool, true, false, true≢false}
+use mathlib.Core.Path.{_≡_, refl, ap, _∙_, ap₂}
 use denote.Ref.{now}
-use mathlib.Core.Path.{ap₂}
-use mathlib.Core.List.{List}
-use Prim.Native.Nat.{ℕ}
-use native.Mathlib.Omega.{arith}
 use lib.ListN.{length}
 use Rattle.model.specs.Calls.{held, gave, accepted}
-use Rattle.noise.proofs.Channel.{ready-few, spread-readied, at-least, all-undone, ran-0, ran-refused}
+use Rattle.noise.proofs.Ran.{ready-few, spread-readied, at-least, all-undone, ran-0, ran-refused}
 use borrow.Author.Needs.{needs}
 use Rattle.noise.proofs.run.Statement.{statement}
 use Rattle.noise.proofs.run.Tie as tie

@@ -1,8 +1,7 @@
 -- `noise::undo` meets its contract. Assumes nothing.
-use mathlib.Core.Path.{_≡_, refl, sym, ap, _∙_}
+use mathlib.Core.Path.{refl, ap, _∙_}
 use denote.Ref.{now}
 use native.Mathlib.Nat.{le-refl}
-use native.Mathlib.Omega.{arith}
 use lib.ListN.{take}
 use Rattle.model.specs.Entries.{listed}
 use Rattle.rebuild.specs.Saved.{withWeights}

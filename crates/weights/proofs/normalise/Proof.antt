@@ -7,7 +7,8 @@ use Rattle.model.specs.Calls as Calls
 use Rattle.model.specs.Calls.{Lent, held, gave, shape}
 use Rattle.model.specs.declared.Answer.{Answer}
 use Rattle.model.proofs.Steps.{refused-shape}
-use Rattle.weights.proofs.Answers.{sound, sound-packed, normalise-5, normalise-9, normalise-0}
+use Rattle.model.proofs.Sound.{sound, sound-packed}
+use Rattle.weights.proofs.Answers.{normalise-5, normalise-9, normalise-0}
 use Rattle.weights.proofs.normalise.Statement.{statement}
 use Rattle.weights.proofs.normalise.Tie as tie
 

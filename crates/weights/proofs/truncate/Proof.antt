@@ -7,7 +7,8 @@ use Rattle.model.specs.Calls as Calls
 use Rattle.model.specs.Calls.{Lent, held, gave, shape}
 use Rattle.model.specs.declared.Answer.{Answer}
 use Rattle.model.proofs.Steps.{refused-shape}
-use Rattle.weights.proofs.Answers.{sound, sound-packed, sound-cutoff, truncate-5, truncate-0}
+use Rattle.model.proofs.Sound.{sound, sound-packed, sound-cutoff}
+use Rattle.weights.proofs.Answers.{truncate-5, truncate-0}
 use Rattle.weights.proofs.truncate.Statement.{statement}
 use Rattle.weights.proofs.truncate.Tie as tie
 

@@ -18,11 +18,11 @@ use Rattle.model.proofs.Entries.{length-listed, listed-at}
 use Rattle.arms.specs.declared.Arms.{Arms}
 use Rattle.arms.specs.declared.Shape.{Shape}
 use Rattle.merging.specs.Progress.{unweighed, Went, started}
-use Rattle.noise.specs.Branches.{liveAt, scaledBy, branchesUpTo, FewCoefficients}
-use Rattle.noise.specs.Finish.{keepBy, splitFor, Spread}
+use Rattle.spread.specs.Branches.{liveAt, scaledBy, branchesUpTo, FewCoefficients}
+use Rattle.spread.specs.Spread.{keepBy, splitFor, Spread}
 use Rattle.merging.specs.declared.Progress.{Progress}
-use Rattle.noise.proofs.Parents.{same-count}
-use Rattle.noise.proofs.Split.{all-branches}
+use Rattle.spread.proofs.Parents.{same-count}
+use Rattle.spread.proofs.Split.{all-branches}
 
 scaled-blind : (h : Shape) (keep : Float) (e : Keyed) → unweighed (scaledBy h keep e) ≡ unweighed e
 unfolding scaledBy reweighed

@@ -1,7 +1,7 @@
 -- The branches of the listed entries. Assumes nothing.
 use Prim.Native.Nat.{ℕ, zero, suc, _+_, _≤_, _<_}
 use mathlib.Core.Bool.{Bool, cond}
-use mathlib.Core.List.{List, [], _∷_, _++_, map}
+use mathlib.Core.List.{List, [], _++_, map}
 use lib.Dec.{eqb}
 use lib.Ieee.{Float}
 use lib.ListN.{getD}
@@ -13,18 +13,11 @@ use Rattle.model.specs.Store.{keyedWeighed, reweighed}
 use Rattle.model.specs.Channels.{branchOf}
 use Rattle.model.specs.Calls.{engine}
 use Rattle.model.specs.declared.Size.{Size}
-use Rattle.arms.specs.Arms.{armsBelow}
+use Rattle.arms.specs.Arms.{armsBelow, shapeQubits}
 use Rattle.arms.specs.declared.Arms.{Arms}
 use Rattle.arms.specs.declared.Shape.{Shape}
-use Rattle.arms.specs.declared.Shape.the-variants.{One, Lose, Two}
 
 -- ---- the branches of one parent
-
--- the qubits that a shape names, each below m
-abbrev pub ShapeBelow : ℕ → Shape → Type 0
-ShapeBelow m (One q) = q < m
-ShapeBelow m (Lose q) = q < m
-ShapeBelow m (Two p q) = (p < m) × (q < m)
 
 -- the parent that stands at place i, with the weight it had
 abbrev pub parentAt : Size → List ℕ → ℕ → ℕ → Keyed
@@ -35,11 +28,6 @@ abbrev pub branchesBelow : Size → Float → Arms → ℕ → Keyed → List Ke
 branchesBelow s threshold r m x = map (branchOf (engine s threshold) x) (armsBelow r m)
 
 -- ---- parents
-
-unfoldable pub shapeQubits : Shape → List ℕ
-shapeQubits (One q) = q ∷ []
-shapeQubits (Lose q) = q ∷ []
-shapeQubits (Two p q) = p ∷ q ∷ []
 
 -- none of these qubits is lost
 unfoldable pub liveAt : Shape → ℕ → Bool

@@ -1,18 +1,17 @@
--- `noise::merge_parents` meets its contract. The loop's invariant: the branches of the first i parents are merged. Assumes nothing.
+-- `spread::merge_parents` meets its contract. The loop's invariant: the branches of the first i parents are merged. Assumes nothing.
 use mathlib.Core.Path.{_≡_, refl, sym, ap, _∙_}
 use mathlib.Core.Logic.{⊎-elim}
-use Prim.Native.Nat.{ℕ, _≤_, _<_, _+_, _*_, _-_}
+use Prim.Native.Nat.{_≤_, _+_, _*_, _-_}
 use native.Mathlib.Omega.{arith}
 use borrow.Author.Needs.{needs}
 use denote.Ref.{now}
 use lib.ListN.{length}
-use Rattle.model.specs.Entries.{entryOf, stretch}
 use Rattle.rebuild.proofs.Turns.{limits, slot-end}
 use Rattle.merging.specs.Progress.{Went, started}
-use Rattle.noise.specs.Branches.{liveAt, branchesUpTo}
-use Rattle.noise.proofs.Parents.{none-done, parent-done, parent-lost, few-so-far, loss-word, same-count, still-there}
-use Rattle.noise.proofs.merge_parents.Statement.{statement}
-use Rattle.noise.proofs.merge_parents.Tie as tie
+use Rattle.spread.specs.Branches.{liveAt, branchesUpTo}
+use Rattle.spread.proofs.Parents.{none-done, parent-done, parent-lost, few-so-far, loss-word, same-count, still-there}
+use Rattle.spread.proofs.merge_parents.Statement.{statement}
+use Rattle.spread.proofs.merge_parents.Tie as tie
 
 abbrev Inv-loop : tie.InvT-loop
 Inv-loop store₀ scratch₀ size threshold cutoff arms count saved len shape q₀ i₀ store scratch q i = (i ≤ count) × (length store ≡ length store₀) × (length scratch ≡ length scratch₀) × Went size threshold cutoff (branchesUpTo size threshold arms saved store₀ i) (started count) store₀ q store

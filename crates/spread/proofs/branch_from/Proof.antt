@@ -1,14 +1,11 @@
--- `noise::branch_from` meets its contract: the branch is made, and merged. Assumes nothing.
-use mathlib.Core.Path.{_≡_, refl, sym, ap, _∙_}
-use Prim.Native.Nat.{ℕ, _≤_, _+_, _*_}
-use native.Mathlib.Omega.{arith}
+-- `spread::branch_from` meets its contract: the branch is made, and merged. Assumes nothing.
+use mathlib.Core.Path.{refl}
 use denote.Ref.{now}
-use Rattle.model.specs.Entries.{entryOf, stretch}
 use Rattle.store.proofs.Merge.{packed-within}
-use Rattle.noise.proofs.From.{inside, delta-is, branch-made, made-long, branch-went}
+use Rattle.spread.proofs.From.{inside, delta-is, branch-made, made-long, branch-went}
 use borrow.Author.Needs.{needs}
-use Rattle.noise.proofs.branch_from.Statement.{statement}
-use Rattle.noise.proofs.branch_from.Tie as tie
+use Rattle.spread.proofs.branch_from.Statement.{statement}
+use Rattle.spread.proofs.branch_from.Tie as tie
 
 mul-rows : tie.Need-mul-rows
 mul-rows c = search needs

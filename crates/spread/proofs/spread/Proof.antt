@@ -1,7 +1,7 @@
--- `noise::spread` meets its contract. Assumes nothing.
+-- `spread::spread` meets its contract. Assumes nothing.
 use mathlib.Core.Path.{_≡_, refl, sym, ap, _∙_}
 use mathlib.Core.List.{List, map}
-use Prim.Native.Nat.{ℕ, _≤_}
+use Prim.Native.Nat.{ℕ}
 use native.Mathlib.Omega.{arith}
 use denote.Ref.{now}
 use lib.Ieee.{Float}
@@ -11,11 +11,11 @@ use Rattle.model.specs.Floats.{float, oneBits, minus}
 use Rattle.model.specs.Entries.{listed, entryLen}
 use Rattle.model.specs.declared.Size.{Size}
 use Rattle.model.proofs.Shape.{Sized}
-use Rattle.noise.specs.Branches.{scaledBy}
-use Rattle.noise.proofs.Spreads.{still-few, spread-is}
+use Rattle.spread.specs.Branches.{scaledBy}
+use Rattle.spread.proofs.Spreads.{still-few, spread-is}
 use borrow.Author.Needs.{needs}
-use Rattle.noise.proofs.spread.Statement.{statement}
-use Rattle.noise.proofs.spread.Tie as tie
+use Rattle.spread.proofs.spread.Statement.{statement}
+use Rattle.spread.proofs.spread.Tie as tie
 
 -- an entry is at the most 581 words long
 cut : (s : Size) {m n : ℕ} → Sized s m → n ≡ entryLen s → (l : List ℕ) → length l ≡ 581 → length (take n l) ≡ n

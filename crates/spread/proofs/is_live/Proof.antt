@@ -1,16 +1,17 @@
--- `noise::is_live` meets its contract, by cases of the shape. Assumes nothing.
-use mathlib.Core.Path.{_≡_, refl, sym, ap, ap₂, subst, _∙_}
+-- `spread::is_live` meets its contract, by cases of the shape. Assumes nothing.
+use mathlib.Core.Path.{_≡_, refl, sym, ap, subst, _∙_}
 use mathlib.Core.Bool.{Bool, true, false, _&&_}
-use Prim.Native.Nat.{ℕ, _%_, _/_, _^_}
+use Prim.Native.Nat.{ℕ}
 use lib.Dec.{eqb}
 use borrow.Author.Tests.{eq-eqb, ne-eqb}
 use Rattle.model.specs.Lists.{every}
 use Rattle.model.specs.Keys.{bit}
 use Rattle.arms.specs.declared.Shape.{Shape}
-use Rattle.noise.specs.Branches.{ShapeBelow, liveAt, shapeQubits}
+use Rattle.arms.specs.Arms.{ShapeBelow, shapeQubits}
+use Rattle.spread.specs.Branches.{liveAt}
 use borrow.Author.Needs.{needs}
-use Rattle.noise.proofs.is_live.Statement.{statement}
-use Rattle.noise.proofs.is_live.Tie as tie
+use Rattle.spread.proofs.is_live.Statement.{statement}
+use Rattle.spread.proofs.is_live.Tie as tie
 
 -- of the shape that the match found
 of-case : {t : Bool} {h o : Shape} (loss : ℕ) → h ≡ o → t ≡ liveAt o loss → t ≡ liveAt h loss

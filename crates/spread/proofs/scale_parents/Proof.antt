@@ -1,4 +1,4 @@
--- `noise::scale_parents` meets its contract. The loop's invariant: the first i entries are scaled. Assumes nothing.
+-- `spread::scale_parents` meets its contract. The loop's invariant: the first i entries are scaled. Assumes nothing.
 use mathlib.Core.Path.{_≡_, refl, sym, ap, _∙_}
 use Prim.Native.Nat.{ℕ, _+_, _*_, _-_, _≤_}
 use native.Mathlib.Omega.{arith}
@@ -7,9 +7,9 @@ use borrow.Author.Needs.{needs}
 use Rattle.model.specs.Entries.{listed}
 use Rattle.model.proofs.Entries.{length-listed}
 use Rattle.rebuild.proofs.Turns.{Done, changedBelow, begin, turn, below-all, limits, slots-end, slot-end, part-length}
-use Rattle.noise.specs.Branches.{scaledBy}
-use Rattle.noise.proofs.scale_parents.Statement.{statement}
-use Rattle.noise.proofs.scale_parents.Tie as tie
+use Rattle.spread.specs.Branches.{scaledBy}
+use Rattle.spread.proofs.scale_parents.Statement.{statement}
+use Rattle.spread.proofs.scale_parents.Tie as tie
 
 abbrev Inv-loop : tie.InvT-loop
 Inv-loop store₀ size count shape keep len i₀ store i = (i ≤ count) × (length store ≡ length store₀) × Done size count (λ k. scaledBy shape keep) i store₀ store

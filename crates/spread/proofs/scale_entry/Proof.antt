@@ -1,13 +1,12 @@
--- `noise::scale_entry` meets its contract. Assumes nothing.
-use mathlib.Core.Path.{_≡_, refl, sym, ap, ap₂, subst, _∙_}
-use mathlib.Core.Bool.{Bool, true, false}
+-- `spread::scale_entry` meets its contract. Assumes nothing.
+use mathlib.Core.Path.{sym, ap, _∙_}
 use lib.Ieee.{Float}
 use denote.Ref.{now}
 use Rattle.model.specs.Floats.{bits, times}
-use Rattle.noise.proofs.Scaled.{scaled-live, scaled-lost}
+use Rattle.spread.proofs.Scaled.{scaled-live, scaled-lost}
 use borrow.Author.Needs.{needs}
-use Rattle.noise.proofs.scale_entry.Statement.{statement}
-use Rattle.noise.proofs.scale_entry.Tie as tie
+use Rattle.spread.proofs.scale_entry.Statement.{statement}
+use Rattle.spread.proofs.scale_entry.Tie as tie
 
 slice-read-is-live : tie.Need-slice-read-is-live
 slice-read-is-live c = search needs

@@ -26,11 +26,13 @@ use Rattle.rebuild.specs.Saved.{withWeights, withKeyWords}
 use Rattle.rebuild.proofs.Restored as Restored
 use Rattle.rebuild.proofs.Slots.{same-store}
 use Rattle.merging.specs.Progress.{tallyOf, unweighed}
-use Rattle.noise.specs.Branches.{scaledBy, branchesBy, FewCoefficients}
-use Rattle.noise.specs.Finish.{keepBy, splitFor, merging, Spread, Finished, ending, Stands, readied, Readied, ranBy, putBack}
+use Rattle.spread.specs.Branches.{scaledBy, branchesBy, FewCoefficients}
+use Rattle.arms.specs.Arms.{Stands}
+use Rattle.spread.specs.Spread.{keepBy, splitFor, merging, Spread}
+use Rattle.noise.specs.Finish.{Finished, ending, readied, Readied, ranBy, putBack}
 use Rattle.noise.specs.declared.Ending.{Ending}
 use Rattle.merging.specs.declared.Progress.{Progress}
-use Rattle.noise.proofs.Split.{map-is, scaled-is, branches-of}
+use Rattle.spread.proofs.Split.{map-is, scaled-is, branches-of}
 
 -- ---- keys rebuilt
 

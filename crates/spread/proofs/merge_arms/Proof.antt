@@ -1,16 +1,15 @@
--- `noise::merge_arms` meets its contract. The loop's invariant: the first branches of the parent are merged. Assumes nothing.
-use mathlib.Core.Path.{_≡_, refl, sym, ap, _∙_}
-use Prim.Native.Nat.{ℕ, _≤_, _<_, _+_, _*_, _-_}
+-- `spread::merge_arms` meets its contract. The loop's invariant: the first branches of the parent are merged. Assumes nothing.
+use mathlib.Core.Path.{_≡_, refl, sym, _∙_}
+use Prim.Native.Nat.{_≤_, _-_}
 use native.Mathlib.Omega.{arith}
 use borrow.Author.Needs.{needs}
 use denote.Ref.{now}
 use lib.ListN.{length}
-use Rattle.model.specs.Entries.{entryOf, stretch}
 use Rattle.merging.specs.Progress.{Went}
-use Rattle.noise.specs.Branches.{parentAt, branchesBelow}
-use Rattle.noise.proofs.Parents.{qubits-below, no-branch, branch-merged, light, as-before}
-use Rattle.noise.proofs.merge_arms.Statement.{statement}
-use Rattle.noise.proofs.merge_arms.Tie as tie
+use Rattle.spread.specs.Branches.{parentAt, branchesBelow}
+use Rattle.spread.proofs.Parents.{qubits-below, no-branch, branch-merged, light, as-before}
+use Rattle.spread.proofs.merge_arms.Statement.{statement}
+use Rattle.spread.proofs.merge_arms.Tie as tie
 
 abbrev Inv-loop : tie.InvT-loop
 Inv-loop store₀ scratch₀ size threshold cutoff i old rates shape count weight q₀ a₀ store scratch q a = (a ≤ count) × (length store ≡ length store₀) × (length scratch ≡ length scratch₀) × Went size threshold cutoff (branchesBelow size threshold (record { rates = rates; count = count; shape = shape }) a (parentAt size store₀ i old)) q₀ store₀ q store

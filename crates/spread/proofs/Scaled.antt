@@ -13,7 +13,7 @@ use Rattle.model.specs.declared.Size.{Size}
 use Rattle.arms.specs.declared.Shape.{Shape}
 use Rattle.rebuild.specs.Saved.{Became, withWord}
 use Rattle.rebuild.proofs.Words.{put}
-use Rattle.noise.specs.Branches.{liveAt, scaledBy}
+use Rattle.spread.specs.Branches.{liveAt, scaledBy}
 
 module _ (s : Size) (h : Shape) (keep : Float) (x : List ℕ) (l : length x ≡ entryLen s) where
   pub scaled-live : liveAt h (getD x 1 0) ≡ true → {v : ℕ} → v ≡ bits (times (float (getD x 0 0)) keep) → Became s (scaledBy h keep) x (set x 0 v)

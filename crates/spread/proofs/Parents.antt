@@ -20,13 +20,13 @@ use Rattle.model.specs.declared.BranchMutation.{BranchMutation}
 use Rattle.model.specs.declared.Size.{Size}
 use Rattle.model.proofs.Entries.{listed-at}
 use Rattle.model.proofs.Packed.{Packed}
-use Rattle.arms.specs.Arms.{mutationAt, armAt, armsBelow}
+use Rattle.arms.specs.Arms.{mutationAt, armAt, armsBelow, ShapeBelow}
 use Rattle.arms.specs.declared.Arms.{Arms}
 use Rattle.arms.specs.declared.Shape.{Shape}
 use Rattle.arms.specs.declared.Shape.the-variants.{One, Lose, Two}
 use Rattle.keys.specs.Qubits.{QubitsBelow}
 use Rattle.merging.specs.Progress.{unweighed, Light, Went, started}
-use Rattle.noise.specs.Branches.{ShapeBelow, parentAt, branchesBelow, liveAt, branchesBy, branchesUpTo}
+use Rattle.spread.specs.Branches.{parentAt, branchesBelow, liveAt, branchesBy, branchesUpTo}
 use Rattle.merging.specs.declared.Progress.{Progress}
 use Rattle.merging.proofs.Went.{all-there, two-runs}
 

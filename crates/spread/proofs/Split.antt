@@ -19,11 +19,10 @@ use Rattle.model.specs.Calls.{engine}
 use Rattle.model.specs.declared.Size.{Size}
 use Rattle.model.proofs.Lists.{getD-mapped}
 use Rattle.model.proofs.Entries.{listed-at}
-use Rattle.arms.specs.Arms.{armsList}
+use Rattle.arms.specs.Arms.{armsList, Stands}
 use Rattle.arms.specs.declared.Arms.{Arms}
 use Rattle.arms.specs.declared.Shape.{Shape}
-use Rattle.noise.specs.Branches.{parentAt, liveAt, scaledBy, branchesBy, branchesUpTo}
-use Rattle.noise.specs.Finish.{Stands}
+use Rattle.spread.specs.Branches.{parentAt, liveAt, scaledBy, branchesBy, branchesUpTo}
 
 module _ (r : Arms) (c : Noise) (h : Stands r c) where
   live-is : (e : Keyed) → liveAt (r .shape) (e .entry .body .loss) ≡ live c (e .entry .body)

@@ -1,0 +1,5 @@
+pub mod From
+pub mod Parents
+pub mod Scaled
+pub mod Split
+pub mod Spreads
