@@ -1,7 +1,5 @@
 // Gates, after Aaronson and Gottesman: document 01, point 8. A gate turns every row of every entry; keys stay as they are, and are stale.
-use model::Answer;
 use model::Gate;
-use model::Header;
 use model::Size;
 ghost use mathlib.Core.Path.{_≡_};
 ghost use mathlib.Core.Bool.{_||_};
@@ -127,8 +125,6 @@ pub fn turn_entries(store: &mut [u64], size: Size, count: usize, gate: Gate)
     }
 }
 
-// ---- the call
-
 // Number 3 applies: a qubit is not below n, or CNOT's two are the same.
 pub fn qubits_refused(n: usize, gate: Gate) -> bool
     ensures { λ r. ⌜ r ≡ (someNotBelow n (gateQubits gate) || bothTheSame gate) ⌝ }
@@ -146,31 +142,4 @@ pub fn qubits_refused(n: usize, gate: Gate) -> bool
             a == b
         }
     }
-}
-
-// THE CALL: every listed entry turned, and the sum dirty. 1, 2, 3, 5.
-pub fn gate(h: Header, store: &mut [u64], gate: Gate) -> Answer
-    ensures { λ r. ⌜ Calls.gave r (now (store .exit)) ≡ Calls.step (Calls.gate gate) (Calls.held h (now (store .entry))) ⌝ }
-{
-    let size = h.size;
-    let count = h.count;
-    let number = checks::shape_number(h, store);
-    if number != 0 {
-        return checks::plain_answer(h, number);
-    }
-    if qubits_refused(size.n, gate) {
-        return checks::plain_answer(h, 3);
-    }
-    if checks::words_sound(h, store) {
-        turn_entries(store, size, count, gate);
-        let header = Header {
-            size,
-            count,
-            threshold: h.threshold,
-            cutoff: h.cutoff,
-            dirty: true,
-        };
-        return checks::plain_answer(header, 0);
-    }
-    checks::plain_answer(h, 5)
 }

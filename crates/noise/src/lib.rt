@@ -2,7 +2,6 @@
 use arms::Arms;
 use merging::Progress;
 use model::Answer;
-use model::Channel;
 use model::Counts;
 use model::Header;
 use model::Size;
@@ -10,11 +9,9 @@ ghost use mathlib.Core.Path.{_≡_};
 ghost use mathlib.Core.Bool.{true, not};
 ghost use Prim.Native.Nat.{_<_, _≤_};
 ghost use lib.ListN.{length, take};
-ghost use Rattle.model.specs.Floats.{finiteFromZero, float, oneBits, upTo};
-ghost use Rattle.model.specs.Lists.{every};
-ghost use Rattle.model.specs.Numbers.{rates, ratesSound};
+ghost use Rattle.model.specs.Floats.{finiteFromZero};
 ghost use Rattle.model.specs.Entries.{listed};
-ghost use Rattle.model.specs.Channels.{Noise, one, two};
+ghost use Rattle.model.specs.Channels.{Noise};
 ghost use Rattle.model.specs.Channels as Channels;
 ghost use Rattle.model.specs.Calls as Calls;
 ghost use Rattle.model.proofs.Packed.{Packed};
@@ -150,70 +147,4 @@ pub fn run(h: Header, store: &mut [u64], arms: Arms) -> Answer
         &phases,
     );
     checks::plain_answer(h, end.number)
-}
-
-// ---- the calls
-
-// Number 4 applies: a rate that the noise names is not sound, or the rates add to more than 1.
-pub fn rates_refused(arms: Arms, named: bool) -> bool
-    requires { ⌜ arms .count ≤ 15 ⌝ }
-    ensures { λ r. ⌜ ((c : Noise) → Stands arms c → named ≡ every (upTo (float oneBits)) (rates c) → r ≡ not (ratesSound c)) ⌝ }
-{
-    if named {
-        return 1.0 < arms::total_rate(arms);
-    }
-    true
-}
-
-// The call of a noise with these branches; `named`: the rates that it names are sound. 1, 2, 3, 4, 5, 6, 9.
-pub fn call(h: Header, store: &mut [u64], arms: Arms, named: bool) -> Answer
-    requires { ⌜ arms .count ≤ 15 ⌝ }
-    ensures { λ r. ⌜ ((c : Noise) → Stands arms c → named ≡ every (upTo (float oneBits)) (rates c) → Calls.gave r (now (store .exit)) ≡ Calls.step (Calls.noise c) (Calls.held h (now (store .entry)))) ⌝ }
-{
-    let size = h.size;
-    let shape = arms.shape;
-    let number = checks::shape_number(h, store);
-    if number != 0 {
-        return checks::plain_answer(h, number);
-    }
-    if arms::outside(size.n, shape) {
-        return checks::plain_answer(h, 3);
-    }
-    if rates_refused(arms, named) {
-        return checks::plain_answer(h, 4);
-    }
-    if checks::words_sound(h, store) {
-        return run(h, store, arms);
-    }
-    checks::plain_answer(h, 5)
-}
-
-// THE CALL: a channel on one qubit (`pauli_error`, `loss_channel`, `depolarize1`).
-pub fn channel(h: Header, store: &mut [u64], channel: Channel, q: usize) -> Answer
-    ensures { λ r. ⌜ Calls.gave r (now (store .exit)) ≡ Calls.step (Calls.noise (one channel q)) (Calls.held h (now (store .entry))) ⌝ }
-{
-    let named = arms::named_rates_sound(channel, q);
-    call(h, store, arms::channel_arms(channel, q), named)
-}
-
-// THE CALL: pairs of Paulis on two qubits, with their 15 rates. Both qubits may be the same one.
-pub fn two_qubit_pauli_error(
-    h: Header,
-    store: &mut [u64],
-    rates: [f64; 15],
-    p: usize,
-    q: usize,
-) -> Answer
-    ensures { λ r. ⌜ Calls.gave r (now (store .exit)) ≡ Calls.step (Calls.noise (two rates p q)) (Calls.held h (now (store .entry))) ⌝ }
-{
-    let named = arms::all_rates_sound(rates);
-    call(h, store, arms::pair_arms(rates, p, q), named)
-}
-
-// THE CALL: each of the 15 pairs with a part in fifteen of the rate.
-pub fn depolarize2(h: Header, store: &mut [u64], rate: f64, p: usize, q: usize) -> Answer
-    ensures { λ r. ⌜ Calls.gave r (now (store .exit)) ≡ Calls.step (Calls.noise (Channels.depolarize2 rate p q)) (Calls.held h (now (store .entry))) ⌝ }
-{
-    let named = arms::rate_sound(rate);
-    call(h, store, arms::depolarize2_arms(rate, p, q), named)
 }

@@ -1,4 +1,4 @@
-pub mod Parts
-pub mod Rows
-pub mod Entry
 pub mod Begun
+pub mod Noised
+pub mod Turned
+pub mod Moved

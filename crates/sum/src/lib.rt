@@ -1,81 +1,27 @@
-// The calls of document 01. So far: fresh, which begins a sum.
+// The calls of document 01 that begin a sum or change it. A call is given the header by value and the store's words to write in; the
+// definition of what it leaves, refused or not, is `start` or `step` (model/specs/Calls.antt). After each call, the numbers it can give
+// besides 0.
+use arms::Arms;
 use model::Answer;
+use model::Channel;
+use model::Gate;
 use model::Header;
 use model::Size;
 ghost use mathlib.Core.Path.{_≡_};
-ghost use Prim.Native.Nat.{_*_, _<_, _≤_};
-ghost use lib.ListN.{length};
-ghost use Rattle.model.specs.Entries.{entryLen, rowsBelow, wordsOf};
-ghost use Rattle.model.specs.Keys.{usualSalts, keyed};
+ghost use mathlib.Core.Bool.{not};
+ghost use Prim.Native.Nat.{_≤_};
+ghost use Rattle.model.specs.Lists.{every};
+ghost use Rattle.model.specs.Floats.{float, oneBits, upTo};
+ghost use Rattle.model.specs.Channels.{Noise, one, two};
+ghost use Rattle.model.specs.Channels as Channels;
+ghost use Rattle.model.specs.Numbers.{rates, ratesSound};
 ghost use Rattle.model.specs.Calls as Calls;
-ghost use Rattle.model.specs.Calls.{freshRow, freshEntry, gave, start};
-ghost use Rattle.checks.specs.Sized.{Within};
+ghost use Rattle.model.specs.Calls.{held, gave, step, start};
+ghost use Rattle.arms.specs.Arms.{Stands};
 
-// The bits of 1.
-const ONE: u64 = 0x3ff0_0000_0000_0000;
+// ---- a sum begins
 
-// ---- a fresh entry
-
-// x of fresh row r: rows 0 to n - 1 are X on qubit r.
-pub fn fresh_x(n: usize, r: usize) -> u64
-    requires { ⌜ n ≤ 64 ⌝ }
-    ensures { λ x. ⌜ x ≡ freshRow n r .x ⌝ }
-{
-    if r < n {
-        return 1 << r;
-    }
-    0
-}
-
-// z of fresh row r: rows n to 2n - 1 are Z on qubit r - n.
-pub fn fresh_z(n: usize, r: usize) -> u64
-    requires { ⌜ (n ≤ 64) × (r < 2 * n) ⌝ }
-    ensures { λ z. ⌜ z ≡ freshRow n r .z ⌝ }
-{
-    if r < n {
-        return 0;
-    }
-    1 << (r - n)
-}
-
-// The fresh rows, whatever the words were.
-pub fn fresh_rows(rows: &mut [u64], n: usize)
-    requires { ⌜ (n ≤ 64) × (length (now rows) ≡ 3 * (2 * n)) ⌝ }
-    ensures { λ _. ⌜ now (rows .exit) ≡ rowsBelow (freshRow n) (2 * n) ⌝ }
-{
-    let mut r = 0;
-    while r < 2 * n {
-        let at = 3 * r;
-        let x = fresh_x(n, r);
-        let z = fresh_z(n, r);
-        rows[at] = x;
-        rows[at + 1] = z;
-        rows[at + 2] = 0;
-        r += 1;
-    }
-}
-
-// The fresh entry with its keys, whatever the words were: weight 1 and one coefficient 1 + 0i at index 0.
-pub fn fresh_entry(e: &mut [u64], size: Size)
-    requires { ⌜ Within size × (1 ≤ size .k) × (length (now e) ≡ entryLen size) ⌝ }
-    ensures { λ _. ⌜ now (e .exit) ≡ wordsOf (keyed usualSalts (size .n) (freshEntry size)) ⌝ }
-{
-    let n = size.n;
-    let rows = 5 + 3 * size.k;
-    words::clear(&mut e[..rows]);
-    fresh_rows(&mut e[rows..], n);
-    let word_key = keys::word_key(&e[rows..], n);
-    let phase_key = keys::phase_loss_key(keys::usual_salts(), n, &e[rows..], 0);
-    e[0] = ONE;
-    e[2] = word_key;
-    e[3] = phase_key;
-    e[4] = 1;
-    e[6] = ONE;
-}
-
-// ---- the calls that begin a sum
-
-// A sum of the fresh entry, if 1 is above the cutoff, in a store holding any words.
+// A sum of the fresh entry, if 1 is above the cutoff, in a store holding any words. 1, 2.
 pub fn fresh(size: Size, threshold: f64, cutoff: f64, store: &mut [u64]) -> Answer
     ensures { λ r. ⌜ gave r (now (store .exit)) ≡ start (Calls.fresh size threshold cutoff) (now (store .entry)) ⌝ }
 {
@@ -95,11 +41,150 @@ pub fn fresh(size: Size, threshold: f64, cutoff: f64, store: &mut [u64]) -> Answ
     };
     if cutoff < 1.0 {
         let len = checks::entry_len(size);
-        fresh_entry(&mut store[..len], size);
+        fresh::fresh_entry(&mut store[..len], size);
         words::clear(&mut store[len..]);
         header.count = 1;
         return checks::plain_answer(header, 0);
     }
     words::clear(&mut store[..]);
     checks::plain_answer(header, 0)
+}
+
+// ---- channels
+
+// Number 4 applies: a rate that the noise names is not sound, or the rates add to more than 1.
+fn rates_refused(arms: Arms, named: bool) -> bool
+    requires { ⌜ arms .count ≤ 15 ⌝ }
+    ensures { λ r. ⌜ ((c : Noise) → Stands arms c → named ≡ every (upTo (float oneBits)) (rates c) → r ≡ not (ratesSound c)) ⌝ }
+{
+    if named {
+        return 1.0 < arms::total_rate(arms);
+    }
+    true
+}
+
+// The call of any noise that has these branches; `named`: the rates that it names are sound.
+fn call(h: Header, store: &mut [u64], arms: Arms, named: bool) -> Answer
+    requires { ⌜ arms .count ≤ 15 ⌝ }
+    ensures { λ r. ⌜ ((c : Noise) → Stands arms c → named ≡ every (upTo (float oneBits)) (rates c) → gave r (now (store .exit)) ≡ step (Calls.noise c) (held h (now (store .entry)))) ⌝ }
+{
+    let size = h.size;
+    let shape = arms.shape;
+    let number = checks::shape_number(h, store);
+    if number != 0 {
+        return checks::plain_answer(h, number);
+    }
+    if arms::outside(size.n, shape) {
+        return checks::plain_answer(h, 3);
+    }
+    if rates_refused(arms, named) {
+        return checks::plain_answer(h, 4);
+    }
+    if checks::words_sound(h, store) {
+        return noise::run(h, store, arms);
+    }
+    checks::plain_answer(h, 5)
+}
+
+// A channel on one qubit (`pauli_error`, `loss_channel`, `depolarize1`). 1 to 6, 9.
+pub fn channel(h: Header, store: &mut [u64], channel: Channel, q: usize) -> Answer
+    ensures { λ r. ⌜ gave r (now (store .exit)) ≡ step (Calls.noise (one channel q)) (held h (now (store .entry))) ⌝ }
+{
+    let named = arms::named_rates_sound(channel, q);
+    call(h, store, arms::channel_arms(channel, q), named)
+}
+
+// Pairs of Paulis on two qubits, with their 15 rates in the order of `PAULI_PAIRS`. Both qubits may be the same one. 1 to 6, 9.
+pub fn two_qubit_pauli_error(
+    h: Header,
+    store: &mut [u64],
+    rates: [f64; 15],
+    p: usize,
+    q: usize,
+) -> Answer
+    ensures { λ r. ⌜ gave r (now (store .exit)) ≡ step (Calls.noise (two rates p q)) (held h (now (store .entry))) ⌝ }
+{
+    let named = arms::all_rates_sound(rates);
+    call(h, store, arms::pair_arms(rates, p, q), named)
+}
+
+// Each of the 15 pairs with a fifteenth of the rate. 1 to 6, 9.
+pub fn depolarize2(h: Header, store: &mut [u64], rate: f64, p: usize, q: usize) -> Answer
+    ensures { λ r. ⌜ gave r (now (store .exit)) ≡ step (Calls.noise (Channels.depolarize2 rate p q)) (held h (now (store .entry))) ⌝ }
+{
+    let named = arms::rate_sound(rate);
+    call(h, store, arms::depolarize2_arms(rate, p, q), named)
+}
+
+// ---- gates
+
+// Every listed entry is turned, and the sum is dirty. 1, 2, 3, 5.
+pub fn gate(h: Header, store: &mut [u64], gate: Gate) -> Answer
+    ensures { λ r. ⌜ gave r (now (store .exit)) ≡ step (Calls.gate gate) (held h (now (store .entry))) ⌝ }
+{
+    let size = h.size;
+    let count = h.count;
+    let number = checks::shape_number(h, store);
+    if number != 0 {
+        return checks::plain_answer(h, number);
+    }
+    if gates::qubits_refused(size.n, gate) {
+        return checks::plain_answer(h, 3);
+    }
+    if checks::words_sound(h, store) {
+        gates::turn_entries(store, size, count, gate);
+        let header = Header {
+            size,
+            count,
+            threshold: h.threshold,
+            cutoff: h.cutoff,
+            dirty: true,
+        };
+        return checks::plain_answer(header, 0);
+    }
+    checks::plain_answer(h, 5)
+}
+
+// ---- weights
+
+// Each weight is divided by the total. 1, 2, 5, 9.
+pub fn normalise(h: Header, store: &mut [u64]) -> Answer
+    ensures { λ r. ⌜ gave r (now (store .exit)) ≡ step Calls.normalise (held h (now (store .entry))) ⌝ }
+{
+    let number = checks::shape_number(h, store);
+    if number != 0 {
+        return checks::plain_answer(h, number);
+    }
+    if checks::words_sound(h, store) {
+        let size = h.size;
+        let count = h.count;
+        if weights::normalise_entries(store, size, count) {
+            return checks::plain_answer(h, 0);
+        }
+        return checks::plain_answer(h, 9);
+    }
+    checks::plain_answer(h, 5)
+}
+
+// The entries above the cutoff are kept and, if any went, normalised. 1, 2, 5.
+pub fn truncate(h: Header, store: &mut [u64]) -> Answer
+    ensures { λ r. ⌜ gave r (now (store .exit)) ≡ step Calls.truncate (held h (now (store .entry))) ⌝ }
+{
+    let number = checks::shape_number(h, store);
+    if number != 0 {
+        return checks::plain_answer(h, number);
+    }
+    if checks::words_sound(h, store) {
+        let size = h.size;
+        let left = weights::truncate_entries(store, size, h.count, h.cutoff);
+        let after = Header {
+            size,
+            count: left,
+            threshold: h.threshold,
+            cutoff: h.cutoff,
+            dirty: h.dirty,
+        };
+        return checks::plain_answer(after, 0);
+    }
+    checks::plain_answer(h, 5)
 }

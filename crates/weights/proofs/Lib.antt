@@ -5,4 +5,3 @@ pub mod Moved
 pub mod Kept
 pub mod AboveZero
 pub mod Truncated
-pub mod Answers

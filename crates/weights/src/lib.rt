@@ -1,6 +1,4 @@
 // Normalise and truncate: document 01, point 4. An entry's weight has its bits in the first of the entry's words.
-use model::Answer;
-use model::Header;
 use model::Size;
 ghost use mathlib.Core.Path.{_≡_};
 ghost use mathlib.Core.Bool.{true};
@@ -117,48 +115,4 @@ pub fn truncate_entries(store: &mut [u64], size: Size, count: usize, cutoff: f64
     }
     normalise_entries(store, size, left);
     left
-}
-
-// ---- the calls
-
-// THE CALL: each weight divided by the total. 1, 2, 5, 9.
-pub fn normalise(h: Header, store: &mut [u64]) -> Answer
-    ensures { λ r. ⌜ Calls.gave r (now (store .exit)) ≡ Calls.step Calls.normalise (Calls.held h (now (store .entry))) ⌝ }
-{
-    let number = checks::shape_number(h, store);
-    if number != 0 {
-        return checks::plain_answer(h, number);
-    }
-    if checks::words_sound(h, store) {
-        let size = h.size;
-        let count = h.count;
-        if normalise_entries(store, size, count) {
-            return checks::plain_answer(h, 0);
-        }
-        return checks::plain_answer(h, 9);
-    }
-    checks::plain_answer(h, 5)
-}
-
-// THE CALL: the entries above the cutoff are kept, and if any went, normalised. 1, 2, 5.
-pub fn truncate(h: Header, store: &mut [u64]) -> Answer
-    ensures { λ r. ⌜ Calls.gave r (now (store .exit)) ≡ Calls.step Calls.truncate (Calls.held h (now (store .entry))) ⌝ }
-{
-    let number = checks::shape_number(h, store);
-    if number != 0 {
-        return checks::plain_answer(h, number);
-    }
-    if checks::words_sound(h, store) {
-        let size = h.size;
-        let count = truncate_entries(store, size, h.count, h.cutoff);
-        let after = Header {
-            size,
-            count,
-            threshold: h.threshold,
-            cutoff: h.cutoff,
-            dirty: h.dirty,
-        };
-        return checks::plain_answer(after, 0);
-    }
-    checks::plain_answer(h, 5)
 }
