@@ -7,7 +7,6 @@ use native.Mathlib.Omega.{arith}
 use lib.Dec.{leb}
 use lib.ListN.{length, length-map}
 use borrow.Author.Tests.{leb-true}
-use Rattle.model.specs.Lists.{every}
 use Rattle.model.specs.Floats.{finiteFromZero}
 use Rattle.model.specs.Entries.{Entry, strip, entryOf, stretch, listed}
 use Rattle.model.specs.Numbers.{firstOf, boundsSound, fitsIn, coefsSound, rowsSound, bodySound, weightsSound, bodiesSound, entriesSound}
@@ -42,13 +41,16 @@ module _ (x : Lent) where
   unfolding boundsSound
   sound-cutoff s = and-both (finiteFromZero (x .header .threshold)) (finiteFromZero (x .header .cutoff)) (shaped x s .bounds) .1
 
+  pub sound-bodies : sound x ≡ true → bodiesSound (x .header .size) es ≡ true
+  unfolding entriesSound
+  sound-bodies e = and-both (weightsSound es) (bodiesSound (x .header .size) es) (and-both (padded x) (entriesSound (x .header .size) es) e .1) .1
+
   -- no listed entry has more coefficients than K
   pub sound-few : sound x ≡ true → (i : ℕ) → i < x .header .count → entryOf (x .header .size) (stretch (x .header .size) (x .words) i) .entry .body .count ≤ x .header .size .k
-  unfolding entriesSound bodiesSound
+  unfolding bodiesSound
   sound-few e i h =
       let s = x .header .size in
       let d = strip (entryOf s []) in
-      let bodies = and-both (weightsSound es) (bodiesSound s es) (and-both (padded x) (entriesSound s es) e .1) .1 in
       let l : length es ≡ x .header .count = length-map (listed s (x .header .count) (x .words)) strip ∙ length-listed s (x .header .count) (x .words) in
       few-of s (strip (entryOf s (stretch s (x .words) i)))
-      (ap (λ (y : Entry). bodySound s (y .body)) (sym (stripped-at s (x .header .count) i (x .words) d h)) ∙ every-at (λ y. bodySound s (y .body)) es i d bodies (omega arith))
+      (ap (λ (y : Entry). bodySound s (y .body)) (sym (stripped-at s (x .header .count) i (x .words) d h)) ∙ every-at (λ y. bodySound s (y .body)) es i d (sound-bodies e) (omega arith))

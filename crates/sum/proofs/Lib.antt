@@ -2,3 +2,4 @@ pub mod Begun
 pub mod Noised
 pub mod Turned
 pub mod Moved
+pub mod Livened

@@ -116,6 +116,26 @@ pub fn depolarize2(h: Header, store: &mut [u64], rate: f64, p: usize, q: usize) 
     call(h, store, arms::depolarize2_arms(rate, p, q), named)
 }
 
+// ---- reset
+
+// Entries lost at q leave, become live, and are merged in that order. 1, 2, 3, 5.
+pub fn reset_loss_channel(h: Header, store: &mut [u64], q: usize) -> Answer
+    ensures { λ r. ⌜ gave r (now (store .exit)) ≡ step (Calls.reset q) (held h (now (store .entry))) ⌝ }
+{
+    let size = h.size;
+    let number = checks::shape_number(h, store);
+    if number != 0 {
+        return checks::plain_answer(h, number);
+    }
+    if size.n <= q {
+        return checks::plain_answer(h, 3);
+    }
+    if checks::words_sound(h, store) {
+        return reset::run(h, store, q);
+    }
+    checks::plain_answer(h, 5)
+}
+
 // ---- gates
 
 // Every listed entry is turned, and the sum is dirty. 1, 2, 3, 5.

@@ -54,8 +54,7 @@ spread-requires : tie.Need-spread-requires
 spread-requires c κs =
     let y = c .before .before .before .before in
     let s = from-ready y in
-    let h = s .args .h in
-    (
+    let h = s .args .h in (
       (y .ready .ensures .packed, ready-few (h .size) (h .count) (h .dirty) (now (s .args .store)) _ _ _ (y .ready .ensures) (s .pre .0 .1)),
       (s .pre .1 .0, s .pre .1 .1, refl),
     )
@@ -79,8 +78,7 @@ undo-requires c κs =
     let p = from-finish f in
     let y = from-spread p in
     let s = from-ready y in
-    let h = s .args .h in
-    (
+    let h = s .args .h in (
       (
         f .finish .ensures .packed,
         at-least (h .size) (h .count) (h .dirty) (now (s .args .store)) _ _ _ (y .ready .ensures) (h .threshold) (h .cutoff) (s .args .arms) (p .spread .result) _ (p .spread .ensures .2) (f .finish .result) _ (f .finish .ensures) (c .before .before .before .before .if1 .left),
