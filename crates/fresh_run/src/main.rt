@@ -1,19 +1,13 @@
 // The limits of `fresh` and their neighbours. A line for each case: what was given; the number, the header (n, K, capacity, count,
 // threshold bits, cutoff bits, flag), and how many words of the store are 7, as all were before.
 use model::Answer;
-use model::Header;
 use model::Size;
 
 fn show(a: Answer, seven: u64) {
-    let h = a.header;
     trial::text(b": gives");
     trial::number(a.number);
     trial::text(b", header");
-    trial::size(h.size);
-    trial::number(h.count as u64);
-    trial::number(words::bits_of(h.threshold));
-    trial::number(words::bits_of(h.cutoff));
-    trial::number(h.dirty as u64);
+    trial::header(a.header);
     trial::text(b", sevens");
     trial::number(seven);
     trial::text(b"\n");

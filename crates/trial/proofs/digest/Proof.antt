@@ -21,8 +21,8 @@ shared-slice-read-wide c = search needs
 wide-requires : tie.Need-wide-requires Inv-loop μ-loop
 wide-requires c κs = search needs
 
-wrapping-mul-requires : tie.Need-wrapping-mul-requires Inv-loop μ-loop
-wrapping-mul-requires c κs = search needs
+absorb-byte-requires : tie.Need-absorb-byte-requires Inv-loop μ-loop
+absorb-byte-requires c κs = search needs
 
 add-i : tie.Need-add-i Inv-loop μ-loop
 add-i c = search needs
@@ -45,7 +45,7 @@ digest-spec =
     loop-holds
     shared-slice-read-wide
     wide-requires
-    wrapping-mul-requires
+    absorb-byte-requires
     add-i
     loop-less
     loop-again

@@ -1,0 +1,125 @@
+"""Calls on a sum, made by second.py and told on a line, as crates/trial_calls does it."""
+
+import sys
+from collections import namedtuple
+
+import second
+from second import bits_of
+
+# What a call is named on its line, and the function that makes it of a header and words.
+Call = namedtuple("Call", "text make")
+
+
+def bits(*floats):
+    return " ".join(str(bits_of(x)) for x in floats)
+
+
+def pauli(x, y, z, q):
+    return Call(f"pauli {bits(x, y, z)} on {q}", lambda h, w: second.pauli(h, w, x, y, z, q))
+
+
+def loss(p, q):
+    return Call(f"loss {bits(p)} on {q}", lambda h, w: second.loss(h, w, p, q))
+
+
+def depolarizing(p, q):
+    return Call(f"depolarizing {bits(p)} on {q}", lambda h, w: second.depolarizing(h, w, p, q))
+
+
+def pairs(rest, at, one, a, b):
+    """15 rates, all the same but for the one at a place."""
+    rates = [one if i == at else rest for i in range(15)]
+    text = f"pairs {bits(rest)} but at {at} {bits(one)} on {a} {b}"
+    return Call(text, lambda h, w: second.two_qubit_pauli_error(h, w, rates, a, b))
+
+
+def rising_pairs(unit, a, b):
+    """15 rates: once, twice, .. 15 times the unit."""
+    rates = [i * unit for i in range(1, 16)]
+    text = f"pairs rising by {bits(unit)} on {a} {b}"
+    return Call(text, lambda h, w: second.two_qubit_pauli_error(h, w, rates, a, b))
+
+
+def depolarize2(p, a, b):
+    return Call(f"depolarize2 {bits(p)} on {a} {b}", lambda h, w: second.depolarize2(h, w, p, a, b))
+
+
+def reset(q):
+    return Call(f"reset on {q}", lambda h, w: second.reset_loss_channel(h, w, q))
+
+
+def h(q):
+    return Call(f"h on {q}", lambda h, w: second.gate(h, w, second.turned_h, q))
+
+
+def s(q):
+    return Call(f"s on {q}", lambda h, w: second.gate(h, w, second.turned_s, q))
+
+
+def cnot(a, b):
+    return Call(f"cnot on {a} {b}", lambda h, w: second.gate(h, w, second.turned_cnot, a, b))
+
+
+truncate = Call("truncate", second.truncate)
+normalise = Call("normalise", second.normalise)
+
+
+def digest(words):
+    """FNV-1a over the bytes of the words, low byte first."""
+    d = 0xCBF29CE484222325
+    for word in words:
+        for byte in word.to_bytes(8, "little"):
+            d = (d ^ byte) * 0x100000001B3 & second.WORD
+    return d
+
+
+class Sum:
+    """A header and a store, with what is done to them. What was given is written before the call that it is given to."""
+
+    def __init__(self, n, k, capacity, threshold, cutoff, quiet=False):
+        words = [0] * (capacity * second.entry_length(n, k))
+        a = second.fresh(n, k, capacity, threshold, cutoff, words)
+        self.header, self.words = a.header, a.words
+        if not quiet:
+            sys.stdout.write(f"fresh {n} {k} {capacity} {bits(threshold, cutoff)}")
+            self.tell(a, words)
+
+    def tell(self, a, before):
+        head = a.header
+        bounds = bits(head.threshold, head.cutoff)
+        fields = f"{head.n} {head.k} {head.capacity} {head.count} {bounds} {int(head.dirty)}"
+        changed = sum(new != old for new, old in zip(a.words, before))
+        counts = " ".join(map(str, a.counts))
+        print(f": gives {a.number}, counts {counts}, header {fields}, changed {changed}, digest {digest(a.words)}")
+
+    def call(self, *calls):
+        for call in calls:
+            sys.stdout.write(call.text)
+            a = call.make(self.header, self.words)
+            self.tell(a, self.words)
+            self.header, self.words = a.header, a.words
+
+    def put(self, at, v):
+        sys.stdout.write(f"word {at} {v}; ")
+        self.words = self.words[:at] + [v] + self.words[at + 1 :]
+
+    def with_size(self, n, k, capacity):
+        sys.stdout.write(f"size {n} {k} {capacity}; ")
+        self.header = self.header._replace(n=n, k=k, capacity=capacity)
+
+    def with_count(self, count):
+        sys.stdout.write(f"count {count}; ")
+        self.header = self.header._replace(count=count)
+
+    def with_bounds(self, threshold, cutoff):
+        sys.stdout.write(f"bounds {bits(threshold, cutoff)}; ")
+        self.header = self.header._replace(threshold=threshold, cutoff=cutoff)
+
+    def with_flag(self, dirty):
+        sys.stdout.write(f"flag {int(dirty)}; ")
+        self.header = self.header._replace(dirty=dirty)
+
+    def with_length(self, length):
+        """A store of zeros that has another length."""
+        sys.stdout.write(f"length {length}; ")
+        self.words = [0] * length
