@@ -414,6 +414,33 @@ def gate(header, words, turned, *qubits):
     return done(header, words, entries, True)
 
 
+# Point 9: the sheet, written.
+
+
+def line(numbers):
+    return "".join(f"{v:>21}" for v in numbers) + "\n"
+
+
+def sheet_text(header, words):
+    text = line([header.n, header.k, header.capacity, header.count, bits_of(header.threshold), bits_of(header.cutoff)])
+    length = entry_length(header.n, header.k)
+    for at in range(0, header.count * length, length):
+        part = words[at : at + length]
+        text += line([part[0], part[1], part[4]])
+        for numbers in triples(part[5 : 5 + 3 * part[4]]) + triples(part[5 + 3 * header.k :]):
+            text += line(numbers)
+    return text
+
+
+def write_sheet(header, words, room):
+    """The number, and the bytes written."""
+    number = first_refusal(header, words)
+    if number:
+        return number, b""
+    text = sheet_text(header, words).encode()
+    return (8, b"") if room < len(text) else (0, text)
+
+
 if __name__ == "__main__":
     sys.dont_write_bytecode = True
     importlib.import_module(sys.argv[1]).main()

@@ -77,13 +77,17 @@ truncate = Call("truncate", second.truncate, item(TRUNCATE))
 normalise = Call("normalise", second.normalise, item(NORMALISE))
 
 
-def digest(words):
-    """FNV-1a over the bytes of the words, low byte first."""
+def digest_bytes(data):
+    """FNV-1a."""
     d = 0xCBF29CE484222325
-    for word in words:
-        for byte in word.to_bytes(8, "little"):
-            d = (d ^ byte) * 0x100000001B3 & second.WORD
+    for byte in data:
+        d = (d ^ byte) * 0x100000001B3 & second.WORD
     return d
+
+
+def digest(words):
+    """Of the words' bytes, low byte first."""
+    return digest_bytes(b"".join(word.to_bytes(8, "little") for word in words))
 
 
 class Sum:
