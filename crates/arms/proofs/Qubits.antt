@@ -1,6 +1,6 @@
 -- Number 3 in the cases of a shape, and what it leaves: qubits below n, so below 64. Assumes nothing.
 use mathlib.Core.Path.{_≡_, refl, _∙_}
-use mathlib.Core.Bool.{Bool, true, false, true≢false, _||_}
+use mathlib.Core.Bool.{Bool, true, false, _||_}
 use Prim.Native.Nat.{ℕ, _<_, _≤_}
 use native.Mathlib.Nat.{lt-of-lt-of-le}
 use lib.Dec.{leb}
@@ -10,15 +10,12 @@ use Rattle.model.specs.Numbers.{someNotBelow}
 use Rattle.arms.specs.Arms.{shapeQubits, ShapeBelow}
 use Rattle.arms.specs.declared.Shape.{Shape}
 use Rattle.arms.specs.declared.Shape.the-variants.{One, Lose, Two}
+use Rattle.model.proofs.Lists.{or-neither}
 
 -- one test, alone
 alone : (b : Bool) → b ≡ (b || false)
 alone true = refl
 alone false = refl
-
-or-neither : (a b : Bool) → (a || b) ≡ false → (a ≡ false) × (b ≡ false)
-or-neither true b e = absurd (true≢false e)
-or-neither false b e = (refl, e)
 
 module _ (n : ℕ) where
   pub one-told : (q : ℕ) → leb n q ≡ someNotBelow n (shapeQubits (One q))

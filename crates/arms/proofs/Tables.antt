@@ -1,16 +1,14 @@
 -- The branches of pairs, by their number, and sums of rates. Assumes nothing.
-use mathlib.Core.Path.{_≡_, refl, sym, ap, ap₂, _∙_}
+use mathlib.Core.Path.{_≡_, refl, sym, ap, _∙_}
 use mathlib.Core.List.{List, [], _∷_, _++_}
-use Prim.Native.Nat.{ℕ, zero, suc, _+_, _≤_, _<_}
+use Prim.Native.Nat.{ℕ, zero, suc, _+_}
 use native.Mathlib.Numerals.{add-one}
-use native.Mathlib.Nat.{not-suc-le-zero}
 use native.Mathlib.Omega.{arith}
 use lib.Ieee.{Float, nan}
 use lib.ListN.{length, getD, drop, replicate, drop-of-length-le}
 use lib.Seq.{drop-cons}
 use Rattle.model.specs.Floats.{float, zeroBits, plus, over}
-use Rattle.model.specs.Channels.{Arm, arm, Pair, two, depolarize2, arms, qubits, pairArms, pauliPairs, foldedTo}
-use Rattle.model.specs.declared.Pauli.{Pauli}
+use Rattle.model.specs.Channels.{Arm, two, depolarize2, arms, qubits, pairArms, pauliPairs, foldedTo}
 use Rattle.model.specs.declared.Pauli.the-variants.{I, X, Y, Z}
 use Rattle.arms.specs.Arms.{pauliAt, mutationAt, armAt, armsBelow, armsList, shapeQubits, Stands}
 use Rattle.arms.specs.declared.Shape.the-variants.{Two}

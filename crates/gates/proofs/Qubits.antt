@@ -1,6 +1,6 @@
 -- Number 3 in the cases of a gate, and what it leaves: qubits below n, so below 64. Assumes nothing.
 use mathlib.Core.Path.{_≡_, refl, _∙_}
-use mathlib.Core.Bool.{Bool, true, false, true≢false, _||_}
+use mathlib.Core.Bool.{Bool, true, false, _||_}
 use Prim.Native.Nat.{ℕ, _<_, _≤_}
 use native.Mathlib.Nat.{lt-of-lt-of-le}
 use lib.Dec.{leb, eqb}
@@ -11,6 +11,7 @@ use Rattle.model.specs.Numbers.{someNotBelow, bothTheSame}
 use Rattle.model.specs.declared.Gate.{Gate}
 use Rattle.model.specs.declared.Gate.the-variants.{H, S, Cnot}
 use Rattle.gates.specs.Qubits.{GateBelow}
+use Rattle.model.proofs.Lists.{or-neither}
 
 -- number 3 applies
 abbrev pub refuses : ℕ → Gate → Bool
@@ -20,10 +21,6 @@ refuses n g = someNotBelow n (gateQubits g) || bothTheSame g
 pub alone : (b : Bool) → b ≡ ((b || false) || false)
 alone true = refl
 alone false = refl
-
-or-neither : (a b : Bool) → (a || b) ≡ false → (a ≡ false) × (b ≡ false)
-or-neither true b e = absurd (true≢false e)
-or-neither false b e = (refl, e)
 
 module _ (n : ℕ) where
   pub refuses-first : (a b : ℕ) → n ≤ a → true ≡ refuses n (Cnot a b)

@@ -2,7 +2,7 @@
 use mathlib.Core.Path.{_≡_, refl, sym, ap, _∙_}
 use mathlib.Core.Bool.{Bool, true, false, true≢false}
 use mathlib.Core.List.{List, [], _∷_, _++_, map}
-use Prim.Native.Nat.{ℕ, zero, suc, _+_, _≤_, _<_}
+use Prim.Native.Nat.{ℕ, _+_, _≤_, _<_}
 use native.Mathlib.Nat.{add-zero, le-refl, le-trans}
 use native.Mathlib.Omega.{arith}
 use lib.Ieee.{Float}
@@ -15,7 +15,7 @@ use Rattle.model.specs.Calls.{engine}
 use Rattle.model.specs.declared.Size.{Size}
 use Rattle.model.proofs.Entries.{length-listed}
 use Rattle.model.proofs.Packed.{Packed}
-use Rattle.model.proofs.Merging.{merge-grows, mergeAll-grows, mergeAll-append, merge-front, tested-append}
+use Rattle.model.proofs.Merging.{merge-grows, mergeAll-grows, mergeAll-append, merge-front, tested-append, map-take}
 use Rattle.store.specs.Branch.{MergedBy, countBy, tallyBy}
 use Rattle.store.specs.declared.Fate.{Fate}
 use Rattle.store.specs.declared.Fate.the-variants.{Merged, Stored, Dropped, NoRoom}
@@ -29,11 +29,6 @@ use Rattle.merging.specs.declared.Progress.{Progress}
 blind : (w : ℕ) (e : Keyed) → unweighed (reweighed keyedWeighed w e) ≡ unweighed e
 unfolding reweighed
 blind w e = refl
-
-map-take : {X Y : Type 0} (u : X → Y) (n : ℕ) (l : List X) → map u (take n l) ≡ take n (map u l)
-map-take u zero l = refl
-map-take u (suc n) [] = refl
-map-take u (suc n) (x ∷ l) = ap (λ t. u x ∷ t) (map-take u n l)
 
 pub all-there : (s : Size) (count : ℕ) (w : List ℕ) → take count (listed s count w) ≡ listed s count w
 all-there s count w = take-all count (listed s count w) (omega (arith, length-listed s count w))

@@ -55,3 +55,10 @@ module _ (s : Size) (w : List ℕ) where
   pub coefs-part : bodyOf s w .coefs ≡ take (headLen + coefsLen s - headLen) (drop headLen w)
   unfolding entryOf
   coefs-part = rw (add-sub-cancel-left headLen (coefsLen s))
+
+-- the loss word of the entry at place i
+pub loss-word : (s : Size) (len i : ℕ) (w : List ℕ) → len ≡ entryLen s → getD w (i * len + 1) 0 ≡ entryOf s (stretch s w i) .entry .body .loss
+unfolding entryOf
+loss-word s len i w e =
+    ap (λ (k : ℕ). getD w (i * k + 1) 0) e
+    ∙ sym (getD-take (entryLen s) (drop (i * entryLen s) w) 1 0 (omega arith) ∙ getD-drop (i * entryLen s) w 1 0)

@@ -1,11 +1,11 @@
 -- Laws of a list of words cut into groups of one length: what reading and writing a word or a whole group does to them. Assumes nothing.
-use mathlib.Core.Path.{_≡_, refl, sym, ap, _∙_}
+use mathlib.Core.Path.{_≡_, refl, sym, ap, ap₂, _∙_}
 use mathlib.Core.List.{List, [], _∷_, _++_, append-assoc, append-nil}
 use Prim.Native.Nat.{ℕ, zero, suc, _+_, _*_, _-_, _≤_, _<_}
 use native.Mathlib.Nat.{not-suc-le-zero, le-of-suc-le-suc, zero-mul, zero-add, suc-mul, suc-add, mul-le-mul-right}
 use native.Mathlib.Omega.{arith}
 use lib.ListN.{length, take, drop, getD, set, take-append-drop, length-drop}
-use lib.Seq.{take-set-lt, take-set-le, drop-set-lt, drop-set-add, getD-take, getD-drop, drop-drop, take-add, take-at, drop-at, length-take-le}
+use lib.Seq.{take-set-lt, take-set-le, drop-set-lt, drop-set-add, getD-take, getD-drop, drop-drop, take-add, take-at, drop-at, length-take-le, take-append-le, drop-append-le}
 use borrow.Rule.Slice.PartMut.{putMid, midOf, mid-len, same-len-mid, post-is, drop-put}
 use Rattle.model.specs.Lists.{groups, joined}
 use Rattle.model.proofs.Lists.{length-groups, group-at}
@@ -100,3 +100,18 @@ module _ (k n i : ℕ) (w x : List ℕ) (p : n * k ≤ length w) (h : i < n) (g 
         ← drop-drop (n * k - (i * k + k)) (i * k + k) (lent k i w x),
         drop-put (i * k) (i * k + k) w x (omega arith) (omega arith) (omega arith),
       )
+
+-- groups depend on no later word
+pub groups-front : (k n : ℕ) (v w : List ℕ) → n * k ≤ length v → groups k n (v ++ w) ≡ groups k n v
+unfolding groups
+groups-front k zero v w h = refl
+groups-front k (suc n) v w h =
+    let e : suc n * k ≡ n * k + k = suc-mul n k in
+    let l : k ≤ length v = omega (arith, e, h) in
+    ap₂ (λ (x : List ℕ) (r : List (List ℕ)). x ∷ r) (take-append-le k v w l)
+    (ap (groups k n) (drop-append-le k v w l) ∙ groups-front k n (drop k v) w (omega (arith, length-drop k v, e, h)))
+
+pub groups-kept : (k n : ℕ) (w r : List ℕ) → n * k ≤ length w → groups k n (take (n * k) w ++ r) ≡ groups k n w
+groups-kept k n w r h =
+    let l : n * k ≤ length (take (n * k) w) = omega (arith, length-take-le (n * k) w h) in
+    groups-front k n (take (n * k) w) r l ∙ sym (groups-front k n (take (n * k) w) (drop (n * k) w) l) ∙ ap (groups k n) (take-append-drop (n * k) w)

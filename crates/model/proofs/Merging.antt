@@ -20,7 +20,7 @@ use Rattle.model.specs.declared.Salts.{Salts}
 use Rattle.model.specs.declared.Size.{Size}
 
 module _ {X : Type 0} where
-  length-altered : (f : X → X) (i : ℕ) (l : List X) → length (altered f i l) ≡ length l
+  pub length-altered : (f : X → X) (i : ℕ) (l : List X) → length (altered f i l) ≡ length l
   unfolding altered
   length-altered f i [] = refl
   length-altered f zero (x ∷ l) = refl
@@ -33,7 +33,7 @@ module _ {X : Type 0} where
   map-altered u f h zero (x ∷ l) = ap (λ y. y ∷ map u l) (h x)
   map-altered u f h (suc i) (x ∷ l) = ap (λ t. u x ∷ t) (map-altered u f h i l)
 
-  map-take : {Y : Type 0} (u : X → Y) (n : ℕ) (l : List X) → map u (take n l) ≡ take n (map u l)
+  pub map-take : {Y : Type 0} (u : X → Y) (n : ℕ) (l : List X) → map u (take n l) ≡ take n (map u l)
   map-take u zero l = refl
   map-take u (suc n) [] = refl
   map-take u (suc n) (x ∷ l) = ap (λ t. u x ∷ t) (map-take u n l)

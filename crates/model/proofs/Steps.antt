@@ -9,7 +9,8 @@ use Rattle.model.specs.Entries.{Entry, Keyed, strip, listed}
 use Rattle.model.specs.Keys.{usualSalts, keyed}
 use Rattle.model.specs.Sum.{Result, done, refused}
 use Rattle.model.specs.Numbers.{Test, gives, firstOf, entriesSound}
-use Rattle.model.specs.Calls.{Call, Sum, Outcome, Kind, branching, turning, moving, looking, Lent, Left, unless, tests, act, performed, engine, sumOf, bare, kindOf, rebuiltEntries, rebuilt, refusedLeft, left, shape, padded, step}
+use Rattle.model.specs.Calls.{Call, Sum, Outcome, Kind, branching, turning, moving, looking, Lent, Left, unless, tests, act, performed, engine, sumOf, bare, kindOf, rebuiltEntries, rebuilt, refusedLeft, left, shape, padded, step, gave, plainAnswer}
+use Rattle.model.specs.declared.Answer.{Answer}
 
 -- ---- tests
 
@@ -86,3 +87,7 @@ five b e = rw e
 pub five-not : (b : Bool) → b ≡ false → 5 ≡ firstOf (gives 5 (not b) ∷ [])
 unfolding firstOf
 five-not b e = rw e
+
+-- what a call gives that answers with a number and changes nothing
+pub refusal : {r : Answer} {l : Left} (x : Lent) (n : ℕ) → r ≡ plainAnswer (x .header) n → l ≡ refusedLeft x n → gave r (x .words) ≡ l
+refusal x n e p = ap (λ (r : Answer). gave r (x .words)) e ∙ sym p

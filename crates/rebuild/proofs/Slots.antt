@@ -1,19 +1,19 @@
 -- The first slots of a store, and what is left when the others are emptied. Assumes nothing.
-use mathlib.Core.Path.{_≡_, refl, sym, ap, _∙_}
+use mathlib.Core.Path.{_≡_, sym, ap, _∙_}
 use mathlib.Core.Bool.{true}
-use mathlib.Core.List.{List, _++_, append-assoc, map, map-append}
+use mathlib.Core.List.{List, _++_, map, map-append}
 use Prim.Native.Nat.{ℕ, zero, suc, _+_, _*_, _-_, _≤_}
-use native.Mathlib.Nat.{suc-mul, mul-le-mul-right}
+use native.Mathlib.Nat.{mul-le-mul-right}
 use native.Mathlib.Omega.{arith}
-use lib.ListN.{length, take, drop, replicate, length-drop, length-map, length-replicate}
-use lib.Seq.{take-add, take-at, drop-at, length-take-le}
+use lib.ListN.{length, take, drop, replicate, length-map, length-replicate}
+use lib.Seq.{take-at, drop-at, length-take-le}
 use borrow.Rule.Slice.PartMut.{putMid, midOf, same-len-mid, post-is}
 use Rattle.model.specs.Lists.{groups, every}
 use Rattle.model.specs.Entries.{pack, entryLen, entryOf, listed, pastCount}
 use Rattle.model.specs.Numbers.{allZero}
 use Rattle.model.specs.declared.Size.{Size}
 use Rattle.model.proofs.Lists.{length-groups}
-use Rattle.model.proofs.Groups.{groups-add}
+use Rattle.model.proofs.Groups.{groups-add, groups-kept}
 use Rattle.model.proofs.Packed.{Packed, within, packed-is}
 
 -- TWO STORES THAT HOLD ONE LIST ARE EQUAL
@@ -30,17 +30,6 @@ listed-take s m n w h =
     ∙ ap (λ (l : List (List ℕ)). take m (map (entryOf s) l)) (groups-add k m (n - m) w)
     ∙ ap (take m) (map-append (entryOf s) (groups k m w) (groups k (n - m) (drop (m * k) w)))
     ∙ take-at (map (entryOf s) (groups k m w)) _ m (length-map (groups k m w) (entryOf s) ∙ length-groups k m w))
-
--- they depend on no later word
-groups-front : (k n : ℕ) (w r : List ℕ) → n * k ≤ length w → groups k n (take (n * k) w ++ r) ≡ groups k n w
-unfolding groups
-groups-front k zero w r p = refl
-groups-front k (suc n) w r p =
-    let q : suc n * k ≡ n * k + k = suc-mul n k in
-    let e : suc n * k ≡ k + n * k = omega arith in
-    let l : length (take k w) ≡ k = length-take-le k w (omega arith) in
-    let t : List ℕ = take (n * k) (drop k w) ++ r in
-    rw (e, take-add, append-assoc, take-at (take k w) t k l, drop-at (take k w) t k l, groups-front k n (drop k w) r (omega (arith, length-drop k w)))
 
 -- ---- emptied
 
@@ -69,4 +58,4 @@ module _ (s : Size) (from count : ℕ) (w z : List ℕ) (h : Packed s count w) (
   cleared-listed =
       let b : from * entryLen s ≤ count * entryLen s = mul-le-mul-right (entryLen s) l in
       let i : count * entryLen s ≤ length w = within s count w h in
-      ap (map (entryOf s)) (groups-front (entryLen s) from w _ (omega arith)) ∙ listed-take s from count w l
+      ap (map (entryOf s)) (groups-kept (entryLen s) from w _ (omega arith)) ∙ listed-take s from count w l

@@ -7,15 +7,15 @@ use native.Mathlib.Nat.{le-refl}
 use native.Mathlib.Omega.{arith}
 use lib.Dec.{eqb}
 use lib.ListN.{length, take, drop, getD, set, length-set, take-append-drop}
-use lib.Seq.{take-length, drop-length, drop-cons, take-set-lt, take-set-le, drop-set-lt, getD-take, getD-drop, getD-set-same, take-take, length-take-le}
+use lib.Seq.{take-length, drop-length, drop-cons, take-set-lt, take-set-le, drop-set-lt, getD-take, getD-set-same, take-take, length-take-le}
 use Rattle.model.specs.Lists.{retain, swapRemove}
-use Rattle.model.specs.Entries.{entryLen, entryOf, stretch, listed}
+use Rattle.model.specs.Entries.{entryLen, entryOf, listed}
 use Rattle.model.specs.Keys.{bit}
 use Rattle.model.specs.Store.{Split}
 use Rattle.model.specs.Reset.{leavingAt, leftAt, drained}
 use Rattle.model.specs.declared.Size.{Size}
 use Rattle.model.proofs.Lists.{getD-any}
-use Rattle.model.proofs.Entries.{length-listed, listed-at}
+use Rattle.model.proofs.Entries.{length-listed, listed-at, loss-word}
 use Rattle.model.proofs.Packed.{Packed}
 use Rattle.reset.specs.Leaving.{exchanged, lostAt, leaving, Parted}
 use Rattle.reset.proofs.Exchange.{exchanged-same}
@@ -149,13 +149,6 @@ module _ {X : Type 0} (p : X → Bool) where
     how-many = ap length (sym stayed) ∙ length-take-le stay l (t .within)
 
 -- ---- the store
-
--- the loss word of the entry at place i
-loss-word : (s : Size) (len i : ℕ) (w : List ℕ) → len ≡ entryLen s → getD w (i * len + 1) 0 ≡ entryOf s (stretch s w i) .entry .body .loss
-unfolding entryOf
-loss-word s len i w e =
-    ap (λ (k : ℕ). getD w (i * k + 1) 0) e
-    ∙ sym (getD-take (entryLen s) (drop (i * entryLen s) w) 1 0 (omega arith) ∙ getD-drop (i * entryLen s) w 1 0)
 
 -- the test of its bit q
 pub tested : (s : Size) (count q len i : ℕ) (w : List ℕ) → len ≡ entryLen s → i < count → lostAt q (getD (listed s count w) i (entryOf s [])) ≡ eqb (bit q (getD w (i * len + 1) 0)) 1

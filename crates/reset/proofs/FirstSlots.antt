@@ -2,7 +2,7 @@
 use mathlib.Core.Path.{_≡_, refl, sym, ap, subst, _∙_}
 use mathlib.Core.Bool.{Bool, true, false, cond}
 use mathlib.Core.List.{List, [], _∷_, _++_, append-assoc}
-use Prim.Native.Nat.{ℕ, zero, suc, _+_, _*_, _-_, _≤_, _<_}
+use Prim.Native.Nat.{ℕ, suc, _+_, _*_, _-_, _≤_, _<_}
 use native.Mathlib.Nat.{add-zero, suc-mul, mul-le-mul-right}
 use native.Mathlib.Numerals.{add-one}
 use native.Mathlib.Omega.{arith}
@@ -11,7 +11,6 @@ use lib.Ieee.{Float}
 use lib.ListN.{length, take, drop, getD, replicate, length-append, length-drop, length-replicate, take-append-drop}
 use lib.Seq.{length-take-le, take-at, drop-at}
 use borrow.Rule.Slice.PartMut.{postOf}
-use Rattle.model.specs.Lists.{altered}
 use Rattle.model.specs.Entries.{Keyed, entryLen, wordsOf, entryOf, stretch, listed, pastCount}
 use Rattle.model.specs.Numbers.{allZero}
 use Rattle.model.specs.Keys.{storedKey, usualSalts}
@@ -32,6 +31,7 @@ use Rattle.merging.specs.Progress.{tallyOf, Light, Went}
 use Rattle.merging.specs.declared.Progress.{Progress}
 use Rattle.reset.specs.Return.{liveAt, Open, Back}
 use Rattle.reset.proofs.Slots.{zeros-only, zeros-from, listed-front}
+use Rattle.model.proofs.Merging.{length-altered}
 
 -- ---- a store of the first m slots: nothing goes by the capacity
 
@@ -62,12 +62,6 @@ module _ (s : Size) (m : ℕ) where
 -- ---- one merge lists one entry more at the most
 
 module _ {X : Type 0} (H : Holding X) (admit : ℕ → Bool) where
-  length-altered : (f : X → X) (i : ℕ) (l : List X) → length (altered f i l) ≡ length l
-  unfolding altered
-  length-altered f i [] = refl
-  length-altered f zero (x ∷ l) = refl
-  length-altered f (suc i) (x ∷ l) = ap suc (length-altered f i l)
-
   one-more-settled : (b : X) (t : Tally X) (f : Found) → length (settled (H .weighed) admit b t f .entries) ≤ length (t .entries) + 1
   unfolding settled stored-or-dropped
   one-more-settled b t (At i) = omega (arith, length-altered (gained (H .weighed) b) i (t .entries))

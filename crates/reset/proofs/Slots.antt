@@ -3,12 +3,11 @@ use mathlib.Core.Path.{_≡_, refl, ap, ap₂, _∙_}
 use mathlib.Core.Bool.{Bool, true, _&&_}
 use mathlib.Core.List.{List, [], _∷_, _++_, map}
 use Prim.Native.Nat.{ℕ, zero, suc, _+_, _*_, _≤_, _<_}
-use native.Mathlib.Nat.{suc-mul, add-sub-cancel-left}
-use native.Mathlib.Omega.{arith}
+use native.Mathlib.Nat.{add-sub-cancel-left}
 use lib.Dec.{eqb}
-use lib.ListN.{length, drop, replicate, length-drop}
-use lib.Seq.{take-append-le, drop-append-le}
-use Rattle.model.specs.Lists.{groups, every}
+use lib.ListN.{length, drop, replicate}
+use lib.Seq.{drop-append-le}
+use Rattle.model.specs.Lists.{every}
 use Rattle.model.specs.Entries.{entryLen, wordsOf, entryOf, stretch, listed}
 use Rattle.model.specs.Numbers.{allZero}
 use Rattle.model.specs.Keys.{usualSalts}
@@ -17,7 +16,7 @@ use Rattle.model.specs.declared.BranchMutation.the-variants.{Loss as loss}
 use Rattle.model.specs.declared.Salts.{Salts}
 use Rattle.model.specs.declared.Size.{Size}
 use Rattle.model.proofs.Lists.{and-both}
-use Rattle.model.proofs.Groups.{lent}
+use Rattle.model.proofs.Groups.{lent, groups-front}
 use Rattle.rebuild.proofs.Turns.{part, part-length}
 use Rattle.reset.specs.Return.{live, liveAt}
 
@@ -62,15 +61,6 @@ pub zeros-from : (n : ℕ) (v w : List ℕ) → n ≤ length v → allZero (drop
 zeros-from n v w l h g = ap allZero (drop-append-le n v w l) ∙ zeros-append (drop n v) w h g
 
 -- ---- entries depend on no later word
-
-groups-front : (k n : ℕ) (v w : List ℕ) → n * k ≤ length v → groups k n (v ++ w) ≡ groups k n v
-unfolding groups
-groups-front k zero v w h = refl
-groups-front k (suc n) v w h =
-    let e : suc n * k ≡ n * k + k = suc-mul n k in
-    let l : k ≤ length v = omega (arith, e, h) in
-    ap₂ (λ (x : List ℕ) (r : List (List ℕ)). x ∷ r) (take-append-le k v w l)
-    (ap (groups k n) (drop-append-le k v w l) ∙ groups-front k n (drop k v) w (omega (arith, length-drop k v, e, h)))
 
 pub listed-front : (s : Size) (n : ℕ) (v w : List ℕ) → n * entryLen s ≤ length v → listed s n (v ++ w) ≡ listed s n v
 unfolding listed

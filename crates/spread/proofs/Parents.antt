@@ -7,10 +7,10 @@ use native.Mathlib.Nat.{le-refl}
 use native.Mathlib.Numerals.{add-one}
 use native.Mathlib.Omega.{arith}
 use lib.Ieee.{Float, nan}
-use lib.ListN.{length, take, drop, getD, length-append, length-map, List·getD-map}
-use lib.Seq.{getD-take, getD-drop}
+use lib.ListN.{length, take, getD, length-append, length-map, List·getD-map}
+use lib.Seq.{getD-take}
 use Rattle.model.specs.Floats.{float, bits, times}
-use Rattle.model.specs.Entries.{Keyed, entryLen, entryOf, stretch, listed}
+use Rattle.model.specs.Entries.{Keyed, entryOf, stretch, listed}
 use Rattle.model.specs.Keys.{usualSalts}
 use Rattle.model.specs.Changes.{changedKeyed, changedEntry}
 use Rattle.model.specs.Store.{keyedWeighed, reweighed, mergeAll, testedAll, howMany}
@@ -135,13 +135,6 @@ module _ (s : Size) (threshold cutoff : Float) where
     as-before a q v k t = omega (arith, k, same-count (entryOf s (stretch s v i)) (entryOf s (stretch s w i)) (still-there i h t))
 
 -- ---- one parent after the other
-
--- the loss word of the entry at place i
-pub loss-word : (s : Size) (len i : ℕ) (w : List ℕ) → len ≡ entryLen s → getD w (i * len + 1) 0 ≡ entryOf s (stretch s w i) .entry .body .loss
-unfolding entryOf
-loss-word s len i w e =
-    ap (λ (k : ℕ). getD w (i * k + 1) 0) e
-    ∙ sym (getD-take (entryLen s) (drop (i * entryLen s) w) 1 0 (omega arith) ∙ getD-drop (i * entryLen s) w 1 0)
 
 blank : (old : ℕ) (e : Keyed) → reweighed keyedWeighed old e ≡ reweighed keyedWeighed old (unweighed e)
 unfolding reweighed

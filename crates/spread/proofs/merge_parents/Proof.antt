@@ -9,9 +9,10 @@ use lib.ListN.{length}
 use Rattle.rebuild.proofs.Turns.{limits, slot-end}
 use Rattle.merging.specs.Progress.{Went, started}
 use Rattle.spread.specs.Branches.{liveAt, branchesUpTo}
-use Rattle.spread.proofs.Parents.{none-done, parent-done, parent-lost, few-so-far, loss-word, same-count, still-there}
+use Rattle.spread.proofs.Parents.{none-done, parent-done, parent-lost, few-so-far, same-count, still-there}
 use Rattle.spread.proofs.merge_parents.Statement.{statement}
 use Rattle.spread.proofs.merge_parents.Tie as tie
+use Rattle.model.proofs.Entries.{loss-word}
 
 abbrev Inv-loop : tie.InvT-loop
 Inv-loop store₀ scratch₀ size threshold cutoff arms count saved len shape q₀ i₀ store scratch q i = (i ≤ count) × (length store ≡ length store₀) × (length scratch ≡ length scratch₀) × Went size threshold cutoff (branchesUpTo size threshold arms saved store₀ i) (started count) store₀ q store

@@ -2,16 +2,15 @@
 use mathlib.Core.Path.{_≡_, sym, ap, _∙_}
 use mathlib.Core.Bool.{true, false, not}
 use denote.Ref.{now}
-use Prim.Native.Nat.{ℕ, _≤_}
+use Prim.Native.Nat.{_≤_}
 use Rattle.model.specs.Lists.{every}
 use Rattle.model.specs.Floats.{float, oneBits, upTo, finiteFromZero}
 use Rattle.model.specs.Channels.{Noise, qubits}
 use Rattle.model.specs.Numbers.{firstOf, someNotBelow, rates, ratesSound}
-use Rattle.model.specs.Calls.{Lent, Left, held, gave, noise, shape, plainAnswer, refusedLeft, step}
-use Rattle.model.specs.declared.Answer.{Answer}
+use Rattle.model.specs.Calls.{Lent, held, noise, shape, step}
 use Rattle.model.proofs.Packed.{Packed}
 use Rattle.model.proofs.Sound.{sound, sound-packed, sound-cutoff, sound-few}
-use Rattle.model.proofs.Steps.{refused-shape}
+use Rattle.model.proofs.Steps.{refused-shape, refusal}
 use Rattle.arms.specs.Arms.{Stands, ShapeBelow}
 use Rattle.spread.specs.Branches.{FewCoefficients}
 use Rattle.noise.specs.Finish.{ranBy}
@@ -71,9 +70,6 @@ runs : (c : tie.Then4) (n : Noise) → Stands (from-4 (c .before) .args .arms) n
 runs c n h m =
     let three = c .before .before .before in
     sym (lets-through (given (from-3 three)) n (shape-sound (three .before .before .before .before)) (placed (three .before .before) n h) (rated three n h m) (words-sound c))
-
-refusal : {r : Answer} {l : Left} (x : Lent) (n : ℕ) → r ≡ plainAnswer (x .header) n → l ≡ refusedLeft x n → gave r (x .words) ≡ l
-refusal x n e p = ap (λ (r : Answer). gave r (x .words)) e ∙ sym p
 
 -- ---- the answers
 

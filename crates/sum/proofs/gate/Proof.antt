@@ -1,11 +1,10 @@
 -- `sum::gate` meets its contract: one law for each of its answers. Assumes nothing.
 use mathlib.Core.Path.{_≡_, sym, ap, _∙_}
 use mathlib.Core.Bool.{true, false}
-use Prim.Native.Nat.{ℕ}
 use Rattle.model.specs.Numbers.{firstOf}
-use Rattle.model.specs.Calls.{Lent, Left, held, gave, gate, shape, plainAnswer, refusedLeft}
+use Rattle.model.specs.Calls.{Lent, held, gave, gate, shape}
 use Rattle.model.specs.declared.Answer.{Answer}
-use Rattle.model.proofs.Steps.{refused-shape}
+use Rattle.model.proofs.Steps.{refused-shape, refusal}
 use Rattle.model.proofs.Sound.{sound}
 use Rattle.sum.proofs.Turned.{unfit, misplaced, unsound, ready, all-turned}
 use borrow.Author.Needs.{needs}
@@ -25,9 +24,6 @@ fit c = sym (c .before .qubits-refused .ensures) ∙ c .if2 .left
 
 words-sound : (c : tie.Then3) → sound (given (c .before .before .before .before .before .before .before .before .before .before)) ≡ true
 words-sound c = sym (c .before .words-sound .ensures) ∙ c .if3 .taken
-
-refusal : {r : Answer} {l : Left} (x : Lent) (n : ℕ) → r ≡ plainAnswer (x .header) n → l ≡ refusedLeft x n → gave r (x .words) ≡ l
-refusal x n e p = ap (λ (r : Answer). gave r (x .words)) e ∙ sym p
 
 shape-number-requires : tie.Need-shape-number-requires
 shape-number-requires c κs = search needs

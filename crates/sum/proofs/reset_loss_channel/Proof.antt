@@ -1,11 +1,9 @@
 -- `sum::reset_loss_channel` meets its contract: one law for each of its answers. Assumes nothing.
-use mathlib.Core.Path.{_≡_, sym, ap, _∙_}
+use mathlib.Core.Path.{_≡_, sym, _∙_}
 use mathlib.Core.Bool.{true}
-use Prim.Native.Nat.{ℕ}
 use Rattle.model.specs.Numbers.{firstOf}
-use Rattle.model.specs.Calls.{Lent, Left, held, gave, reset, shape, plainAnswer, refusedLeft}
-use Rattle.model.specs.declared.Answer.{Answer}
-use Rattle.model.proofs.Steps.{refused-shape}
+use Rattle.model.specs.Calls.{Lent, held, reset, shape}
+use Rattle.model.proofs.Steps.{refused-shape, refusal}
 use Rattle.model.proofs.Sound.{sound}
 use Rattle.sum.proofs.Livened.{misplaced, unsound, fit, done-so}
 use borrow.Author.Needs.{needs}
@@ -31,9 +29,6 @@ shape-sound c = sym (c .before .shape-number .ensures) ∙ c .if1 .left
 
 words-sound : (c : tie.Then3) → sound (given (start (shaped (tested c) .before))) ≡ true
 words-sound c = sym (c .before .words-sound .ensures) ∙ c .if3 .taken
-
-refusal : {r : Answer} {l : Left} (x : Lent) (n : ℕ) → r ≡ plainAnswer (x .header) n → l ≡ refusedLeft x n → gave r (x .words) ≡ l
-refusal x n e p = ap (λ (r : Answer). gave r (x .words)) e ∙ sym p
 
 shape-number-requires : tie.Need-shape-number-requires
 shape-number-requires c κs = search needs
