@@ -1,12 +1,10 @@
 // Calls from standard input, made one after the other on one store, and told on a line each as trial_calls has it: every number that
 // each call can give, the limits and their neighbours, and the traps, mostly on sums for n 2, K 2. differential/calls_run.py has the
 // cases, and makes both the input and what is to come out.
-mod given;
-
-use given::Item;
 use libc::STDIN_FILENO;
 use model::Header;
 use model::Size;
+use trial::Item;
 use trial_calls::Call;
 
 // A header, and how many words of the store go with it.
@@ -153,7 +151,7 @@ fn replay(text: &[u8], store: &mut [u64]) {
     let mut at = 0;
     let mut i: usize = 0;
     while i < 10_000 {
-        let item = given::read_item(text, at);
+        let item = trial::read_item(text, at);
         if item.end {
             return;
         }

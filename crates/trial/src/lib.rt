@@ -3,8 +3,11 @@ use libc::STDOUT_FILENO;
 use model::Header;
 use model::Size;
 
+mod given;
 mod large;
 
+pub use given::Item;
+pub use given::read_item;
 pub use large::lay_large;
 
 pub fn text(t: &[u8]) {

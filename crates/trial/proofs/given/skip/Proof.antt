@@ -1,9 +1,9 @@
--- `calls_run::given::skip` is safe and ends. Assumes nothing.
+-- `trial::given::skip` is safe and ends. Assumes nothing.
 use Prim.Native.Nat.{_-_, _≤_}
 use lib.ListN.{length}
 use borrow.Author.Needs.{needs}
-use Rattle.calls_run.proofs.given.skip.Statement.{statement}
-use Rattle.calls_run.proofs.given.skip.Tie as tie
+use Rattle.trial.proofs.given.skip.Statement.{statement}
+use Rattle.trial.proofs.given.skip.Tie as tie
 
 abbrev Inv-loop : tie.InvT-loop
 Inv-loop text at i₀ i = 0 ≤ i

@@ -1,9 +1,9 @@
--- `calls_run::given::read_number` is safe and ends. Assumes nothing.
+-- `trial::given::read_number` is safe and ends. Assumes nothing.
 use Prim.Native.Nat.{_-_, _≤_}
 use lib.ListN.{length}
 use borrow.Author.Needs.{needs}
-use Rattle.calls_run.proofs.given.read_number.Statement.{statement}
-use Rattle.calls_run.proofs.given.read_number.Tie as tie
+use Rattle.trial.proofs.given.read_number.Statement.{statement}
+use Rattle.trial.proofs.given.read_number.Tie as tie
 
 abbrev Inv-loop : tie.InvT-loop
 Inv-loop text at value₀ i₀ value i = 0 ≤ i
