@@ -1,5 +1,6 @@
 """Every number that each call can give, the limits and their neighbours, and the traps."""
 
+import sampling
 from second import WORD, float_of
 from telling import *
 
@@ -477,3 +478,4 @@ def main():
     any_rows()
     resets()
     lost_at_either()
+    sampling.main()

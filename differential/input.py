@@ -1,15 +1,14 @@
-"""Prints what crates/calls_run is given: the items of calls_run.py, one on a line."""
+"""Prints what a program is given, one item on a line: calls_run or read_run."""
 
 import contextlib
+import importlib
 import io
 import sys
 
 sys.dont_write_bytecode = True
 
-import calls_run
-import telling
-
+cases = importlib.import_module(sys.argv[1])
 with contextlib.redirect_stdout(io.StringIO()):
-    calls_run.main()
-for numbers in telling.given:
+    cases.main()
+for numbers in cases.given:
     print(*numbers)

@@ -28,9 +28,18 @@ def large_entry(e):
     return words
 
 
+def large_words():
+    return [w for e in range(256) for w in large_entry(e)]
+
+
+def laid():
+    """The header and the words of the large sum, its keys not worked out."""
+    return second.Header(64, 64, 256, 256, 0.5, 0.0, True), large_words()
+
+
 def main():
     run = Sum(64, 64, 256, 0.5, 0.0)
-    run.words = [w for e in range(256) for w in large_entry(e)]
+    run.words = large_words()
     run.with_count(256)
     run.with_flag(True)
     # a dirty sum; a full store whose branches all merge

@@ -414,6 +414,42 @@ def gate(header, words, turned, *qubits):
     return done(header, words, entries, True)
 
 
+# Point 7: the sampling table and the pick.
+
+
+def table_rows(header, words):
+    """List place and total of each table entry: stable order by falling weight, running totals from 0."""
+    length = entry_length(header.n, header.k)
+    weights = [float_of(words[i * length]) for i in range(header.count)]
+    rows, total = [], 0.0
+    for place in sorted(range(header.count), key=lambda i: -weights[i]):
+        total = total + weights[place]
+        rows.append((place, total))
+    return rows
+
+
+def table(header, words, out):
+    """The number, the length, and the output as it is afterwards."""
+    number = first_refusal(header, words)
+    if not number:
+        number = 8 if len(out) < 2 * header.count else 9 if header.count == 0 else 0
+    if number:
+        return number, 0, out
+    written = [w for place, total in table_rows(header, words) for w in (place, bits_of(total))]
+    return 0, len(written), written + out[len(written) :]
+
+
+def pick(header, words, draw):
+    """The number and the place."""
+    number = first_refusal(header, words)
+    if not number:
+        number = 9 if header.count == 0 else 10 if not 0 <= draw < 1 else 0
+    if number:
+        return number, 0
+    rows = table_rows(header, words)
+    return 0, next((place for place, total in rows if total > draw), rows[-1][0])
+
+
 # Point 9: the sheet, written.
 
 
@@ -439,6 +475,77 @@ def write_sheet(header, words, room):
         return number, b""
     text = sheet_text(header, words).encode()
     return (8, b"") if room < len(text) else (0, text)
+
+
+# Point 9: the sheet, read.
+
+
+def number_in(columns):
+    """The number of which these columns are the field, if it is below 2^64."""
+    digits = columns.lstrip(b" ")
+    if not digits.isdigit():
+        return None
+    v = int(digits)
+    return v if v <= WORD and columns == f"{v:>21}".encode() else None
+
+
+def numbers_on(text, m):
+    """The m numbers of a line."""
+    if len(text) != 21 * m + 1 or text[-1] != 10:
+        return None
+    numbers = [number_in(text[21 * j : 21 * j + 21]) for j in range(m)]
+    return None if None in numbers else numbers
+
+
+def lines_of(text):
+    lines = [numbers_on(text[i : i + 64], 3) for i in range(0, len(text), 64)]
+    return None if None in lines else lines
+
+
+def parts_on(lines, n, count):
+    """For each entry its line, its coefficients and its rows, if the lines are as many as these ask for."""
+    parts = []
+    for _ in range(count):
+        if not lines:
+            return None
+        own, lines = lines[0], lines[1:]
+        coefficients, lines = lines[: own[2]], lines[own[2] :]
+        rows, lines = lines[: 2 * n], lines[2 * n :]
+        if len(coefficients) < own[2] or len(rows) < 2 * n:
+            return None
+        parts.append((own, coefficients, rows))
+    return None if lines else parts
+
+
+def words_on(own, coefficients, rows, k):
+    """An entry's words, its keys 0."""
+    words = [own[0], own[1], 0, 0, own[2]]
+    for numbers in coefficients + [[0, 0, 0]] * (k - own[2]) + rows:
+        words += numbers
+    return words
+
+
+def read_sheet(text, words):
+    head = numbers_on(text[:127], 6)
+    lines = lines_of(text[127:])
+    if head is None or lines is None:
+        return Answer(7, ZERO_HEADER, NO_COUNTS, words)
+    n, k, capacity, count = head[:4]
+    parts = parts_on(lines, n, count)
+    if parts is None:
+        return Answer(7, ZERO_HEADER, NO_COUNTS, words)
+    header = Header(n, k, capacity, count, float_of(head[4]), float_of(head[5]), True)
+    number = 0
+    if not limits_hold(n, k, capacity, words):
+        number = 1
+    elif count > capacity or not (bound_sound(header.threshold) and bound_sound(header.cutoff)):
+        number = 2
+    elif not all(own[2] <= k and part_sound(words_on(own, cs, rows, k), n, k) for own, cs, rows in parts):
+        number = 5
+    if number:
+        return Answer(number, ZERO_HEADER, NO_COUNTS, words)
+    laid = [w for part in parts for w in words_on(*part, k)]
+    return Answer(0, header, NO_COUNTS, laid + [0] * (len(words) - len(laid)))
 
 
 if __name__ == "__main__":

@@ -12,6 +12,7 @@ Call = namedtuple("Call", "text make item")
 # Items: a kind, how many values follow, and these (crates/calls_run/src).
 QUIET, FRESH, PUT, SIZE, COUNT, BOUNDS, FLAG, LENGTH = range(8)
 PAULI, LOSS, DEPOLARIZING, PAIRS, RISING, DEPOLARIZE2, RESET, H, S, CNOT, TRUNCATE, NORMALISE = range(8, 20)
+TABLE, PICK, LAY = range(20, 23)
 
 # What has been given so far.
 given = []
@@ -122,6 +123,25 @@ class Sum:
         given.append(item(PUT, at, v))
         sys.stdout.write(f"word {at} {v}; ")
         self.words = self.words[:at] + [v] + self.words[at + 1 :]
+
+    def lay(self, at, v):
+        """A word put without a word."""
+        given.append(item(LAY, at, v))
+        self.words[at] = v
+
+    def table(self, *rooms):
+        for room in rooms:
+            given.append(item(TABLE, room))
+            number, length, out = second.table(self.header, self.words, [7] * room)
+            words = "".join(f" {w}" for w in out[:20])
+            told = f"table {room}: gives {number}, length {length}, words{words}"
+            print(f"{told}, sevens {out.count(7)}, digest {digest(out)}")
+
+    def pick(self, *draws):
+        for draw in draws:
+            given.append(item(PICK, draw))
+            number, place = second.pick(self.header, self.words, second.float_of(draw))
+            print(f"pick {draw}: gives {number}, place {place}")
 
     def with_size(self, n, k, capacity):
         given.append(item(SIZE, n, k, capacity))

@@ -3,7 +3,12 @@
 pub struct Item {
     pub end: bool,
     pub kind: u64,
-    pub values: [u64; 6],
+    pub a: u64,
+    pub b: u64,
+    pub c: u64,
+    pub d: u64,
+    pub e: u64,
+    pub f: u64,
     pub at: usize,
 }
 
@@ -69,7 +74,12 @@ pub fn read_item(text: &[u8], at: usize) -> Item {
     Item {
         end: text.len() <= kind.at,
         kind: kind.value,
-        values: [a.value, b.value, c.value, d.value, e.value, f.value],
+        a: a.value,
+        b: b.value,
+        c: c.value,
+        d: d.value,
+        e: e.value,
+        f: f.value,
         at: f.at,
     }
 }

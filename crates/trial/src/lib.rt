@@ -90,6 +90,18 @@ pub fn keep_words(to: &mut [u64], from: &[u64]) {
     words::copy_words(to, from);
 }
 
+// The first words, at most twenty.
+pub fn show_words(words: &[u64]) {
+    let mut i = 0;
+    while i < words.len() {
+        if 20 <= i {
+            return;
+        }
+        number(words[i]);
+        i += 1;
+    }
+}
+
 // How many words are v.
 pub fn count_words(words: &[u64], v: u64) -> u64 {
     let mut c: u64 = 0;

@@ -1,0 +1,5 @@
+pub mod Values
+pub mod Passes
+pub mod Pieces
+pub mod Lines
+pub mod Tested

@@ -1,0 +1,144 @@
+-- A field is read as the number of which it is the field, and nothing else is read as a number. Assumes nothing.
+use mathlib.Core.Path.{_≡_, refl, sym, ap, ap₂, _∙_}
+use mathlib.Core.Bool.{Bool, true, false, true≢false, cond, _&&_, and-assoc}
+use mathlib.Core.List.{List, [], _∷_, _++_}
+use mathlib.Core.Option.{none, some}
+use Prim.Native.Nat.{ℕ, zero, suc, _+_, _*_, _-_, _/_, _%_, _^_, _<_, _≤_}
+use native.Mathlib.Nat.{pow-suc, div-lt-iff-lt-mul, div-add-mod}
+use native.Mathlib.Omega.{arith}
+use lib.Dec.{eqb, ltb}
+use lib.ListN.{length, length-append}
+use borrow.Author.Tests.{eq-eqb, ne-eqb, eqb-true, lt-ltb, le-ltb, ltb-true}
+use Rattle.model.specs.Sheet.{blank, digit, columns, leading, field, sameWords, valueFrom, fieldValue}
+use Rattle.model.proofs.Lists.{and-both, and-true, and-false}
+use Rattle.fields.specs.Read.{column}
+
+-- ---- words compared
+
+-- a list is the same as itself
+pub same-refl : (l : List ℕ) → sameWords l l ≡ true
+unfolding sameWords
+same-refl [] = refl
+same-refl (x ∷ xs) = rw (eq-eqb x x refl) (same-refl xs)
+
+-- lists that are found the same are equal
+pub same-eq : (a b : List ℕ) → sameWords a b ≡ true → a ≡ b
+unfolding sameWords
+same-eq [] [] e = refl
+same-eq [] (y ∷ ys) e = absurd (true≢false (sym e))
+same-eq (x ∷ xs) [] e = absurd (true≢false (sym e))
+same-eq (x ∷ xs) (y ∷ ys) e =
+    let p = and-both (eqb x y) (sameWords xs ys) e in
+    ap₂ (λ a b. a ∷ b) (eqb-true x y (p .0)) (same-eq xs ys (p .1))
+
+-- .. compared from the last word on
+pub same-last : (a b : List ℕ) (x y : ℕ) → length a ≡ length b → sameWords (a ++ x ∷ []) (b ++ y ∷ []) ≡ (sameWords a b && eqb x y)
+unfolding sameWords
+same-last [] [] x y h = and-true (eqb x y)
+same-last [] (v ∷ b) x y h = absurd (omega arith)
+same-last (u ∷ a) [] x y h = absurd (omega arith)
+same-last (u ∷ a) (v ∷ b) x y h =
+    ap (λ (t : Bool). eqb u v && t) (same-last a b x y (omega arith)) ∙ sym (and-assoc (eqb u v) (sameWords a b) (eqb x y))
+
+-- ---- the columns of a number
+
+-- the last column, and those before it
+pub leading-last : (c v : ℕ) → leading (suc c) v ≡ leading c (v / 10) ++ column v ∷ []
+unfolding leading column
+leading-last c v = go (eqb v 0) refl
+  where
+    go : (t : Bool) → eqb v 0 ≡ t → cond t (leading c 0 ++ blank ∷ []) (leading c (v / 10) ++ digit (v % 10) ∷ []) ≡ leading c (v / 10) ++ cond t blank (digit (v % 10)) ∷ []
+    go true e =
+        let z : v ≡ 0 = eqb-true v 0 e in
+        ap (λ (w : ℕ). leading c w ++ blank ∷ []) (sym (ap (λ (w : ℕ). w / 10) z))
+    go false e = refl
+
+-- they fill their columns
+pub length-leading : (c v : ℕ) → length (leading c v) ≡ c
+unfolding leading
+length-leading zero v = refl
+length-leading (suc c) v =
+    ap length (leading-last c v) ∙ length-append (leading c (v / 10)) (column v ∷ []) ∙ (omega (arith, length-leading c (v / 10)))
+
+-- a field is 21 columns
+pub length-field : (v : ℕ) → length (field v) ≡ columns
+unfolding field
+length-field v = length-append (leading 20 (v / 10)) (digit (v % 10) ∷ []) ∙ (omega (arith, length-leading 20 (v / 10)))
+
+-- ---- the number that they stand for
+
+-- columns read one after the other
+pub value-append : (v : ℕ) (a b : List ℕ) → valueFrom v (a ++ b) ≡ valueFrom (valueFrom v a) b
+unfolding valueFrom
+value-append v [] b = refl
+value-append v (x ∷ a) b = value-append (cond (eqb x blank) v (10 * v + (x - digit 0))) a b
+
+value-digit : (v d : ℕ) → valueFrom v (digit d ∷ []) ≡ 10 * v + d
+unfolding valueFrom
+value-digit v d = rw (ne-eqb (digit d) blank (λ e. omega arith)) (omega arith)
+
+whole : (v : ℕ) → 10 * (v / 10) + v % 10 ≡ v
+whole v = div-add-mod v 10
+
+value-column : (v : ℕ) → valueFrom (v / 10) (column v ∷ []) ≡ v
+unfolding column valueFrom
+value-column v = go (eqb v 0) refl
+  where
+    go : (t : Bool) → eqb v 0 ≡ t → valueFrom (v / 10) (cond t blank (digit (v % 10)) ∷ []) ≡ v
+    go true e =
+        let z : v ≡ 0 = eqb-true v 0 e in
+        rw z
+    go false e = value-digit (v / 10) (v % 10) ∙ whole v
+
+value-leading : (c v : ℕ) → v < 10 ^ c → valueFrom 0 (leading c v) ≡ v
+unfolding leading valueFrom
+value-leading zero v h = omega arith
+value-leading (suc c) v h =
+    let p : 10 ^ suc c ≡ 10 ^ c * 10 = pow-suc 10 c in
+    let l : v / 10 < 10 ^ c = div-lt-iff-lt-mul {k = 10} (omega arith) .1 (omega arith) in
+    ap (valueFrom 0) (leading-last c v)
+    ∙ value-append 0 (leading c (v / 10)) (column v ∷ [])
+    ∙ ap (λ (w : ℕ). valueFrom w (column v ∷ [])) (value-leading c (v / 10) l)
+    ∙ value-column v
+
+-- 20 digits suffice for a number below 2^64
+pub value-field : (v : ℕ) → v < 2 ^ 64 → valueFrom 0 (field v) ≡ v
+unfolding field
+value-field v h =
+    value-append 0 (leading 20 (v / 10)) (digit (v % 10) ∷ [])
+    ∙ ap (λ (w : ℕ). valueFrom w (digit (v % 10) ∷ [])) (value-leading 20 (v / 10) (omega arith))
+    ∙ value-digit (v / 10) (v % 10)
+    ∙ whole v
+
+-- ---- a field, read
+
+-- the field of a number below 2^64 is read as that number
+pub field-read : (v : ℕ) → v < 2 ^ 64 → fieldValue (field v) ≡ some v
+unfolding fieldValue
+field-read v h = rw (value-field v h, same-refl (field v), lt-ltb v (2 ^ 64) h)
+
+-- what is read as a number is its field
+pub read-field : (bs : List ℕ) (v : ℕ) → fieldValue bs ≡ some v → (bs ≡ field v) × (v < 2 ^ 64)
+unfolding fieldValue
+read-field bs v e = go (valueFrom 0 bs) (sameWords bs (field (valueFrom 0 bs))) (ltb (valueFrom 0 bs) (2 ^ 64)) refl refl e
+  where
+    go : (w : ℕ) (s t : Bool) → sameWords bs (field w) ≡ s → ltb w (2 ^ 64) ≡ t → cond (s && t) (some w) none ≡ some v → (bs ≡ field v) × (v < 2 ^ 64)
+    go w true true p q r =
+        let z : w ≡ v = cc in
+        (same-eq bs (field w) p ∙ ap field z, rw z at (ltb-true w (2 ^ 64) q))
+    go w true false p q r = let z : _≡_ {A = ℕ} 0 1 = cc in absurd (omega arith)
+    go w false t p q r = let z : _≡_ {A = ℕ} 0 1 = cc in absurd (omega arith)
+
+-- the two answers of `read_field`: the digits stand for a number below 2^64, and then the columns are its field or not; or for a larger one
+pub sound-read : (bs : List ℕ) (s : Bool) (v : ℕ) → v < 2 ^ 64 → v ≡ valueFrom 0 bs → s ≡ sameWords bs (field v) → cond s (some v) none ≡ fieldValue bs
+unfolding fieldValue
+sound-read bs s v h e p = rw (← e, lt-ltb v (2 ^ 64) h, and-true (sameWords bs (field v)), p)
+
+pub large-read : (bs : List ℕ) → 2 ^ 64 ≤ valueFrom 0 bs → none ≡ fieldValue bs
+unfolding fieldValue
+large-read bs h = rw (le-ltb (valueFrom 0 bs) (2 ^ 64) h, and-false (sameWords bs (field (valueFrom 0 bs))))
+
+-- the value that was read
+pub value-read : (s : Bool) (w v : ℕ) → cond s (some w) none ≡ some v → w ≡ v
+value-read true w v e = cc
+value-read false w v e = let z : _≡_ {A = ℕ} 0 1 = cc in absurd (omega arith)

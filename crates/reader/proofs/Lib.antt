@@ -1,0 +1,9 @@
+pub mod Lined
+pub mod Entry
+pub mod Filled
+pub mod Walked
+pub mod Sheets
+pub mod Answers
+pub mod Rewritten
+pub mod Reread
+pub mod RoundTrip
