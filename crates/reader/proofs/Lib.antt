@@ -7,3 +7,4 @@ pub mod Answers
 pub mod Rewritten
 pub mod Reread
 pub mod RoundTrip
+pub mod Sums
