@@ -1,5 +1,9 @@
 #!/usr/bin/env python3
-"""A second program for document 01, written from its text and from no other code.
+"""A second program for document 01.
+
+Masks, keys, likeness, merging, channels, reset, gates, truncate, normalise and fresh were written from document 01's text; of the code
+only the calls' names, arguments and contracts were known. The table, the pick and the sheet, written and read, were written with the
+code known, so they show slips more than misreadings.
 
 A sum is a header and a list of 64-bit words, laid out as "Store words" says. Each call takes both and gives the number,
 the header, the four counts and the words as they are afterwards; a refused call gives back what it was given.
