@@ -1,20 +1,23 @@
-"""The marked runs a to j."""
+"""The marked runs a to j: after each call the entries, one on a line."""
 
-import second
 from telling import *
+
+# n 1, K 1: 14 words an entry.
+LENGTH = 14
 
 
 class Shown(Sum):
-    """After each call a line for each entry: weight bits, loss word, phases of the rows."""
+    def begin(self, *given):
+        super().begin(*given)
+        self.show(LENGTH * self.header.count, LENGTH)
 
-    def tell(self, a, before):
-        super().tell(a, before)
-        for e in second.entries_of(a.header, a.words):
-            print("", second.bits_of(e.weight), e.loss, *(phase for _, _, phase in e.rows))
+    def make(self, call):
+        super().make(call)
+        self.show(LENGTH * self.header.count, LENGTH)
 
 
 def begin(name, capacity=8, cutoff=0.0):
-    print(name)
+    title(name)
     return Shown(1, 1, capacity, 0.5, cutoff)
 
 
@@ -29,7 +32,7 @@ def four(name):
 def main():
     run = begin("a")
     run.call(pauli(0.25, 0.125, 0.125, 0))
-    print("b")
+    title("b")
     run.call(pauli(0.25, 0.0, 0.0, 0))
     begin("c").call(pauli(0.0, 0.0, 0.0, 0))
     begin("d", cutoff=0.25).call(pauli(0.25, 0.0, 0.0, 0))

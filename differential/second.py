@@ -2,13 +2,13 @@
 """A second program for document 01.
 
 Masks, keys, likeness, merging, channels, reset, gates, truncate, normalise and fresh were written from document 01's text; of the code
-only the calls' names, arguments and contracts were known. The table, the pick and the sheet, written and read, were written with the
-code known, so they show slips more than misreadings.
+only the calls' names, arguments and contracts were known. The table, the pick, the view and the sheet, written and read, were written
+with the code known, so they show slips more than misreadings.
 
 A sum is a header and a list of 64-bit words, laid out as "Store words" says. Each call takes both and gives the number,
 the header, the four counts and the words as they are afterwards; a refused call gives back what it was given.
 
-    python3 differential/second.py marked_runs     prints what the program of that name must write
+    python3 differential/second.py replay [FILE]    prints what the program of that name must write, and what it is given into the file
 """
 
 import functools
@@ -432,15 +432,14 @@ def table_rows(header, words):
     return rows
 
 
-def table(header, words, out):
-    """The number, the length, and the output as it is afterwards."""
+def table(header, words, room):
+    """The number, and the words written."""
     number = first_refusal(header, words)
     if not number:
-        number = 8 if len(out) < 2 * header.count else 9 if header.count == 0 else 0
+        number = 8 if room < 2 * header.count else 9 if header.count == 0 else 0
     if number:
-        return number, 0, out
-    written = [w for place, total in table_rows(header, words) for w in (place, bits_of(total))]
-    return 0, len(written), written + out[len(written) :]
+        return number, []
+    return 0, [w for place, total in table_rows(header, words) for w in (place, bits_of(total))]
 
 
 def pick(header, words, draw):
@@ -452,6 +451,16 @@ def pick(header, words, draw):
         return number, 0
     rows = table_rows(header, words)
     return 0, next((place for place, total in rows if total > draw), rows[-1][0])
+
+
+# The view of one entry.
+
+
+def view(header, words, place):
+    """The number, and the words shown. (A place that is not below the count is 3, as a qubit that is not below n.)"""
+    number = first_refusal(header, words, same=place >= header.count)
+    length = entry_length(header.n, header.k)
+    return (number, []) if number else (0, words[place * length : place * length + length])
 
 
 # Point 9: the sheet, written.
@@ -552,6 +561,14 @@ def read_sheet(text, words):
     return Answer(0, header, NO_COUNTS, laid + [0] * (len(words) - len(laid)))
 
 
+def main(name, given_to=None):
+    cases = importlib.import_module(name)
+    cases.main()
+    if given_to:
+        with open(given_to, "w") as file:
+            file.writelines(" ".join(map(str, item)) + "\n" for item in cases.given)
+
+
 if __name__ == "__main__":
     sys.dont_write_bytecode = True
-    importlib.import_module(sys.argv[1]).main()
+    main(*sys.argv[1:])

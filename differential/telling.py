@@ -1,81 +1,124 @@
-"""Calls on a sum, made by second.py and told on a line, as crates/trial_calls does it; and what crates/calls_run is given to make them."""
+"""Calls on a sum, made by second.py and told on a line as crates/replay does it; and what crates/replay is given to make them."""
 
-import sys
 from collections import namedtuple
 
 import second
 from second import bits_of
 
-# What a call is named on its line, the function that makes it of a header and words, and its item.
-Call = namedtuple("Call", "text make item")
+# Kinds of calls, as crates/perform has them.
+PAULI, LOSS, DEPOLARIZING, PAIRS, DEPOLARIZE2, RESET, H, S, CNOT, TRUNCATE, NORMALISE, TABLE, PICK, SHEET, VIEW = range(15)
+# Other items of crates/replay.
+FRESH, READ, WORD_AT, ALL_WORDS, LARGE, SHOW, BYTE_AT, ALL_BYTES, TITLE = range(20, 29)
+LENT = 30
+# The words of a record after its seven numbers: what a table or a view shows.
+SHOWN = 581
 
-# Items: a kind, how many values follow, and these (crates/calls_run/src).
-QUIET, FRESH, PUT, SIZE, COUNT, BOUNDS, FLAG, LENGTH = range(8)
-PAULI, LOSS, DEPOLARIZING, PAIRS, RISING, DEPOLARIZE2, RESET, H, S, CNOT, TRUNCATE, NORMALISE = range(8, 20)
-TABLE, PICK, LAY = range(20, 23)
-
-# What has been given so far.
+# What is given, one item on a line: a kind, how many values follow, and these.
 given = []
 
+# A call: its kind, p and q (or a place, or a room), its rates, and the function that makes it of a header, words and a text's room.
+Call = namedtuple("Call", "kind p q rates make")
+# What a call gives besides the sum: place, length, what goes to the record and what to the text.
+Shown = namedtuple("Shown", "place length words text", defaults=(0, 0, [], b""))
 
-def item(kind, *values):
+
+def give(kind, *values):
     """Floats stand for their bits."""
     numbers = [bits_of(v) if isinstance(v, float) else int(v) for v in values]
-    return [kind, len(numbers)] + numbers
+    given.append([kind, len(numbers), *numbers])
 
 
-def bits(*floats):
-    return " ".join(str(bits_of(x)) for x in floats)
+def changing(kind, p, q, rates, make):
+    """A call that changes the sum: it shows nothing."""
+    return Call(kind, p, q, rates, lambda h, w, room: (make(h, w), Shown()))
 
 
 def pauli(x, y, z, q):
-    return Call(f"pauli {bits(x, y, z)} on {q}", lambda h, w: second.pauli(h, w, x, y, z, q), item(PAULI, x, y, z, q))
+    return changing(PAULI, q, 0, [x, y, z], lambda h, w: second.pauli(h, w, x, y, z, q))
 
 
 def loss(p, q):
-    return Call(f"loss {bits(p)} on {q}", lambda h, w: second.loss(h, w, p, q), item(LOSS, p, q))
+    return changing(LOSS, q, 0, [p], lambda h, w: second.loss(h, w, p, q))
 
 
 def depolarizing(p, q):
-    return Call(f"depolarizing {bits(p)} on {q}", lambda h, w: second.depolarizing(h, w, p, q), item(DEPOLARIZING, p, q))
+    return changing(DEPOLARIZING, q, 0, [p], lambda h, w: second.depolarizing(h, w, p, q))
+
+
+def two_qubit(rates, a, b):
+    return changing(PAIRS, a, b, rates, lambda h, w: second.two_qubit_pauli_error(h, w, rates, a, b))
 
 
 def pairs(rest, at, one, a, b):
     """15 rates, all the same but for the one at a place."""
-    rates = [one if i == at else rest for i in range(15)]
-    text = f"pairs {bits(rest)} but at {at} {bits(one)} on {a} {b}"
-    return Call(text, lambda h, w: second.two_qubit_pauli_error(h, w, rates, a, b), item(PAIRS, rest, at, one, a, b))
+    return two_qubit([one if i == at else rest for i in range(15)], a, b)
 
 
 def rising_pairs(unit, a, b):
     """15 rates: once, twice, .. 15 times the unit."""
-    rates = [i * unit for i in range(1, 16)]
-    text = f"pairs rising by {bits(unit)} on {a} {b}"
-    return Call(text, lambda h, w: second.two_qubit_pauli_error(h, w, rates, a, b), item(RISING, unit, a, b))
+    return two_qubit([i * unit for i in range(1, 16)], a, b)
 
 
 def depolarize2(p, a, b):
-    return Call(f"depolarize2 {bits(p)} on {a} {b}", lambda h, w: second.depolarize2(h, w, p, a, b), item(DEPOLARIZE2, p, a, b))
+    return changing(DEPOLARIZE2, a, b, [p], lambda h, w: second.depolarize2(h, w, p, a, b))
 
 
 def reset(q):
-    return Call(f"reset on {q}", lambda h, w: second.reset_loss_channel(h, w, q), item(RESET, q))
+    return changing(RESET, q, 0, [], lambda h, w: second.reset_loss_channel(h, w, q))
 
 
 def h(q):
-    return Call(f"h on {q}", lambda h, w: second.gate(h, w, second.turned_h, q), item(H, q))
+    return changing(H, q, 0, [], lambda h, w: second.gate(h, w, second.turned_h, q))
 
 
 def s(q):
-    return Call(f"s on {q}", lambda h, w: second.gate(h, w, second.turned_s, q), item(S, q))
+    return changing(S, q, 0, [], lambda h, w: second.gate(h, w, second.turned_s, q))
 
 
 def cnot(a, b):
-    return Call(f"cnot on {a} {b}", lambda h, w: second.gate(h, w, second.turned_cnot, a, b), item(CNOT, a, b))
+    return changing(CNOT, a, b, [], lambda h, w: second.gate(h, w, second.turned_cnot, a, b))
 
 
-truncate = Call("truncate", second.truncate, item(TRUNCATE))
-normalise = Call("normalise", second.normalise, item(NORMALISE))
+truncate = changing(TRUNCATE, 0, 0, [], second.truncate)
+normalise = changing(NORMALISE, 0, 0, [], second.normalise)
+
+
+def looked(number, header, words):
+    return second.Answer(number, header, second.NO_COUNTS, words)
+
+
+def table(room):
+    """A room above that of the record counts as that."""
+
+    def make(h, w, _):
+        number, out = second.table(h, w, min(room, SHOWN))
+        return looked(number, h, w), Shown(0, len(out), out)
+
+    return Call(TABLE, room, 0, [], make)
+
+
+def pick(bits):
+    def make(h, w, _):
+        number, place = second.pick(h, w, second.float_of(bits))
+        return looked(number, h, w), Shown(place)
+
+    return Call(PICK, 0, 0, [second.float_of(bits)], make)
+
+
+def make_sheet(h, w, room):
+    number, text = second.write_sheet(h, w, room)
+    return looked(number, h, w), Shown(0, len(text), [], text)
+
+
+sheet = Call(SHEET, 0, 0, [], make_sheet)
+
+
+def view(place):
+    def make(h, w, _):
+        number, out = second.view(h, w, place)
+        return looked(number, h, w), Shown(0, len(out), out)
+
+    return Call(VIEW, place, 0, [], make)
 
 
 def digest_bytes(data):
@@ -91,80 +134,125 @@ def digest(words):
     return digest_bytes(b"".join(word.to_bytes(8, "little") for word in words))
 
 
+def numbers(values):
+    return "".join(f" {v}" for v in values)
+
+
+def header_words(h):
+    return [h.n, h.k, h.capacity, h.count, bits_of(h.threshold), bits_of(h.cutoff), int(h.dirty)]
+
+
+# What is lent: the header's seven words, how many words of the store, how many bytes of the text.
+lent = [0] * 9
+
+
+def lend(**parts):
+    """Says what is lent, where it is another: header, words, bytes."""
+    old = list(lent)
+    if "header" in parts:
+        lent[:7] = header_words(parts["header"])
+    lent[7] = parts.get("words", lent[7])
+    lent[8] = parts.get("bytes", lent[8])
+    if lent != old:
+        give(LENT, *lent)
+
+
+class Text:
+    """The lent text, which all sums share; its digest is worked out again only where it changed."""
+
+    def __init__(self):
+        self.bytes, self.digest = b"", digest_bytes(b"")
+
+    def put(self, data):
+        if data != self.bytes:
+            self.bytes, self.digest = data, digest_bytes(data)
+
+    def fill(self, length, v):
+        lend(bytes=length)
+        give(ALL_BYTES, v)
+        self.put(bytes([v]) * length)
+
+    def become(self, data):
+        """Byte by byte, where it is another."""
+        lend(bytes=len(data))
+        old = self.bytes.ljust(len(data), b"\0")
+        for at, (a, b) in enumerate(zip(old, data)):
+            if a != b or at >= len(self.bytes):
+                give(BYTE_AT, at, b)
+        self.put(data)
+
+
+text = Text()
+
+
 class Sum:
-    """A header and a store, with what is done to them. What was given is written before the call that it is given to."""
+    """A header and a store, with what is done to them."""
 
-    def __init__(self, n, k, capacity, threshold, cutoff, quiet=False):
-        words = [0] * (capacity * second.entry_length(n, k))
-        a = second.fresh(n, k, capacity, threshold, cutoff, words)
+    def __init__(self, n, k, capacity, threshold, cutoff, length=None, fill=0):
+        self.lend(capacity * second.entry_length(n, k) if length is None else length, fill)
+        self.begin(second.fresh(n, k, capacity, threshold, cutoff, self.words), FRESH, n, k, capacity, float(threshold), float(cutoff))
+
+    def lend(self, length, fill):
+        lend(words=length)
+        give(ALL_WORDS, fill)
+        self.words = [fill] * length
+
+    def left(self, a):
+        """The sum as a call left it."""
         self.header, self.words = a.header, a.words
-        given.append(item(QUIET if quiet else FRESH, n, k, capacity, float(threshold), float(cutoff), len(words)))
-        if not quiet:
-            sys.stdout.write(f"fresh {n} {k} {capacity} {bits(threshold, cutoff)}")
-            self.tell(a, words)
+        lent[:7] = header_words(a.header)
+        return f", header{numbers(lent[:7])}, digest {digest(a.words)}"
 
-    def tell(self, a, before):
-        head = a.header
-        bounds = bits(head.threshold, head.cutoff)
-        fields = f"{head.n} {head.k} {head.capacity} {head.count} {bounds} {int(head.dirty)}"
-        changed = sum(new != old for new, old in zip(a.words, before))
-        counts = " ".join(map(str, a.counts))
-        print(f": gives {a.number}, counts {counts}, header {fields}, changed {changed}, digest {digest(a.words)}")
+    def begin(self, a, *item):
+        give(*item)
+        print(f" {item[0]} begins {a.number}{self.left(a)}")
 
     def call(self, *calls):
         for call in calls:
-            sys.stdout.write(call.text)
-            given.append(call.item)
-            a = call.make(self.header, self.words)
-            self.tell(a, self.words)
-            self.header, self.words = a.header, a.words
+            self.make(call)
+
+    def make(self, call):
+        give(call.kind, call.p, call.q, *call.rates)
+        a, shown = call.make(self.header, self.words, len(text.bytes))
+        record = [a.number, *a.counts, shown.place, shown.length, *shown.words]
+        record += [7] * (7 + SHOWN - len(record))
+        text.put(shown.text + text.bytes[len(shown.text) :])
+        line = f"{numbers([call.kind, call.p, call.q])} gives{numbers(record[:7])}{self.left(a)}"
+        line += f", record {digest(record)}, text {text.digest}"
+        if shown.words:
+            line += f", shown{numbers(shown.words[:20])}"
+        print(line)
 
     def put(self, at, v):
-        given.append(item(PUT, at, v))
-        sys.stdout.write(f"word {at} {v}; ")
+        give(WORD_AT, at, v)
         self.words = self.words[:at] + [v] + self.words[at + 1 :]
 
-    def lay(self, at, v):
-        """A word put without a word."""
-        given.append(item(LAY, at, v))
-        self.words[at] = v
+    def show(self, count, width):
+        give(SHOW, count, width)
+        for i in range(0, count, width):
+            print(numbers(self.words[i : i + width]))
 
-    def table(self, *rooms):
-        for room in rooms:
-            given.append(item(TABLE, room))
-            number, length, out = second.table(self.header, self.words, [7] * room)
-            words = "".join(f" {w}" for w in out[:20])
-            told = f"table {room}: gives {number}, length {length}, words{words}"
-            print(f"{told}, sevens {out.count(7)}, digest {digest(out)}")
-
-    def pick(self, *draws):
-        for draw in draws:
-            given.append(item(PICK, draw))
-            number, place = second.pick(self.header, self.words, second.float_of(draw))
-            print(f"pick {draw}: gives {number}, place {place}")
+    def with_header(self, **fields):
+        self.header = self.header._replace(**fields)
+        lend(header=self.header)
 
     def with_size(self, n, k, capacity):
-        given.append(item(SIZE, n, k, capacity))
-        sys.stdout.write(f"size {n} {k} {capacity}; ")
-        self.header = self.header._replace(n=n, k=k, capacity=capacity)
+        self.with_header(n=n, k=k, capacity=capacity)
 
     def with_count(self, count):
-        given.append(item(COUNT, count))
-        sys.stdout.write(f"count {count}; ")
-        self.header = self.header._replace(count=count)
+        self.with_header(count=count)
 
     def with_bounds(self, threshold, cutoff):
-        given.append(item(BOUNDS, float(threshold), float(cutoff)))
-        sys.stdout.write(f"bounds {bits(threshold, cutoff)}; ")
-        self.header = self.header._replace(threshold=threshold, cutoff=cutoff)
+        self.with_header(threshold=threshold, cutoff=cutoff)
 
     def with_flag(self, dirty):
-        given.append(item(FLAG, dirty))
-        sys.stdout.write(f"flag {int(dirty)}; ")
-        self.header = self.header._replace(dirty=dirty)
+        self.with_header(dirty=dirty)
 
     def with_length(self, length):
         """A store of zeros that has another length."""
-        given.append(item(LENGTH, length))
-        sys.stdout.write(f"length {length}; ")
-        self.words = [0] * length
+        self.lend(length, 0)
+
+
+def title(letter):
+    give(TITLE, ord(letter))
+    print(letter)

@@ -12,7 +12,7 @@ use Rattle.model.specs.declared.BranchMutation.the-variants.{Pauli as pauli, Pa
 use Rattle.model.specs.declared.Salts.{Salts}
 use Rattle.model.specs.declared.Size.{Size}
 use Rattle.model.proofs.Packed.{Fits, entry-words, words-length}
-use Rattle.keys.proofs.Rows.{mapRows-length}
+use Rattle.model.proofs.Rows.{mapRows-length}
 use Rattle.branch.proofs.Words.{entry-fits}
 
 module _ (salts : Salts) (s : Size) where

@@ -14,7 +14,7 @@ use Rattle.model.specs.Entries.{Row, rowAt, xAt, zAt, phaseAt, rowWords, rowsBe
 use Rattle.model.specs.Keys.{pick}
 use Rattle.model.specs.Changes.{flipsBy, flippedRow}
 use Rattle.model.specs.declared.BranchMutation.{BranchMutation}
-use Rattle.keys.proofs.Rows.{wordsBelow-length}
+use Rattle.model.proofs.Rows.{wordsBelow-length}
 
 -- a word written past a seam
 set-past : (xs ys : List ℕ) (j v : ℕ) → set (xs ++ ys) (length xs + j) v ≡ xs ++ set ys j v

@@ -9,7 +9,7 @@ ghost use Rattle.model.specs.Entries.{entryLen, mapRows, entryOf, wordsOf};
 ghost use Rattle.model.specs.Keys.{usualSalts};
 ghost use Rattle.model.specs.Changes.{flips, flipsBy, flippedRow, masksOf, changedKeyed};
 ghost use Rattle.model.specs.Store.{keyedWeighed, reweighed};
-ghost use Rattle.keys.specs.Qubits.{QubitsBelow};
+ghost use Rattle.model.specs.Qubits.{QubitsBelow};
 ghost use Rattle.checks.specs.Sized.{Within};
 
 // 1 if one Pauli at qubit q flips a row with this x and z, else 0: X where z is set, Z where x is, Y where exactly one is.

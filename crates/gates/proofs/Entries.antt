@@ -13,7 +13,7 @@ use Rattle.model.specs.declared.Gate.{Gate}
 use Rattle.model.specs.declared.Size.{Size}
 use Rattle.model.proofs.Entries.{bodyOf, part-tail}
 use Rattle.model.proofs.Packed.{Fits, words-entry}
-use Rattle.keys.proofs.Rows.{mapRows-length}
+use Rattle.model.proofs.Rows.{mapRows-length}
 
 module _ (s : Size) (g : Gate) (e : List ℕ) (l : length e ≡ entryLen s) where
   abbrev pub turnedEntry : Keyed

@@ -8,7 +8,7 @@ use native.Mathlib.Omega.{arith}
 use lib.Bits.{bitXor, xor-comm, xor-lt, xor-zero-r}
 use lib.ListN.{length, take, drop, length-drop}
 use lib.Seq.{take-all, take-add, length-take-le}
-use Rattle.words.proofs.Xor.{xor-assoc, xor-cancel, xor-cancel-left, xor-swap}
+use Rattle.model.proofs.Xor.{xor-assoc, xor-cancel, xor-cancel-left, xor-swap}
 use Rattle.model.specs.Lists.{wordsBelow}
 use Rattle.model.specs.Entries.{Row, rowAt, rowWords, rowsBelow, mapRows}
 use Rattle.model.specs.Keys.{bit, pick}
@@ -17,8 +17,8 @@ use Rattle.model.specs.Gates.{xorBit, xorSign, turnedRow}
 use Rattle.model.specs.declared.BranchMutation.the-variants.{Pauli as pauli}
 use Rattle.model.specs.declared.Gate.the-variants.{H, S, Cnot}
 use Rattle.model.specs.declared.Pauli.the-variants.{Z}
-use Rattle.keys.proofs.Picks.{bit-lt, bit-xor, pick-bits, bit-pow-same, bit-pow-other}
-use Rattle.keys.proofs.Rows.{mapRows-row}
+use Rattle.model.proofs.Picks.{bit-lt, bit-xor, pick-bits, bit-pow-same, bit-pow-other}
+use Rattle.model.proofs.Rows.{mapRows-row}
 use Rattle.gates.proofs.Rows.{product-lt, Three, three, three-words, same-row, part-row}
 
 -- f done k times

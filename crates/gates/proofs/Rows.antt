@@ -14,7 +14,7 @@ use Rattle.model.specs.Keys.{xBit, zBit}
 use Rattle.model.specs.Gates.{xorBit, xorSign, turnedRow}
 use Rattle.model.specs.declared.Gate.the-variants.{H, S, Cnot}
 use Rattle.model.proofs.Groups.{lent}
-use Rattle.keys.proofs.Rows.{wordsBelow-length}
+use Rattle.model.proofs.Rows.{wordsBelow-length}
 
 -- a product of two bits is a bit
 pub product-lt : (a b : ℕ) → a < 2 → b < 2 → a * b < 2

@@ -14,8 +14,8 @@ use Rattle.model.specs.declared.Pauli.the-variants.{I, X, Y, Z}
 use Rattle.model.specs.declared.Salts.{Salts}
 use Rattle.keys.specs.Deltas.{DeltasAt, deltaOf}
 use Rattle.keys.specs.declared.Deltas.{Deltas}
-use Rattle.keys.proofs.Picks.{bit-lt}
-use Rattle.keys.proofs.Sums.{maskSum-clear, maskSum-xor}
+use Rattle.model.proofs.Picks.{bit-lt}
+use Rattle.model.proofs.Sums.{maskSum-clear, maskSum-xor}
 
 pub flips-lt : (p : Pauli) (q : ℕ) (r : Row) → flips p q r < 2
 unfolding flips

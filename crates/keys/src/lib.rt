@@ -8,7 +8,7 @@ ghost use Rattle.model.specs.Keys.{usualSalts, mix, rowMask, bit, pick, xBit, z
 ghost use Rattle.model.specs.Changes.{flipMasks, masksOf};
 ghost use Rattle.model.specs.declared.BranchMutation.the-variants.{Pauli as pauli};
 ghost use Rattle.keys.specs.Deltas.{DeltasAt, deltaOf};
-ghost use Rattle.keys.specs.Qubits.{QubitsBelow};
+ghost use Rattle.model.specs.Qubits.{QubitsBelow};
 use model::BranchMutation;
 use model::Pauli;
 use model::Salts;

@@ -1,24 +1,24 @@
 -- A store that holds a list of entries and 0 past them: what a write to one entry, one more entry, and a change of them all leave. Assumes nothing.
 use mathlib.Core.Path.{_≡_, refl, sym, ap, ap₂, _∙_}
-use mathlib.Core.Bool.{Bool, true, false, _&&_}
+use mathlib.Core.Bool.{true}
 use mathlib.Core.List.{List, [], _∷_, _++_, map, map-append}
 use Prim.Native.Nat.{ℕ, zero, suc, _+_, _*_, _-_, _≤_, _<_}
-use native.Mathlib.Nat.{not-suc-le-zero, le-of-suc-le-suc, suc-mul, mul-sub, mul-comm, mul-le-mul-right}
+use native.Mathlib.Nat.{suc-mul, mul-sub, mul-comm, mul-le-mul-right}
 use native.Mathlib.Numerals.{add-one}
 use native.Mathlib.Omega.{arith}
 use lib.Dec.{eqb}
-use lib.ListN.{length, take, drop, getD, set, replicate, length-drop, length-append, length-set, length-map, take-append-drop}
+use lib.ListN.{length, take, drop, set, replicate, length-drop, length-append, length-set, take-append-drop}
 use lib.Seq.{drop-drop, drop-set-lt, set-at, take-at, drop-at, length-take-le}
 use borrow.Author.Tests.{eqb-true}
 use Rattle.model.specs.Lists.{groups, joined, every}
-use Rattle.model.specs.Entries.{Body, Entry, Keyed, strip, headLen, coefsLen, rowsLen, entryLen, wordsOf, entryOf, stretch, listed, pastCount, pack}
+use Rattle.model.specs.Entries.{Keyed, headLen, coefsLen, rowsLen, entryLen, wordsOf, entryOf, stretch, listed, pastCount, pack}
 use Rattle.model.specs.Numbers.{firstOf, allZero}
-use Rattle.model.specs.Calls.{Lent, held, shape, padded}
+use Rattle.model.specs.Calls.{Lent, shape, padded}
 use Rattle.model.specs.declared.Size.{Size}
 use Rattle.model.proofs.Lists.{and-both, length-groups, group-at}
-use Rattle.model.proofs.Groups.{stride-le, stride-lt, group-length, groups-set, groups-add, words-are, lent, lent-groups, lent-length, lent-rest}
-use Rattle.model.proofs.Entries.{length-listed, length-stretch}
-use Rattle.model.proofs.Shape.{Sized, Shaped, shaped}
+use Rattle.model.proofs.Groups.{stride-lt, groups-set, groups-add, words-are, lent, lent-groups, lent-length, lent-rest}
+use Rattle.model.proofs.Entries.{length-listed}
+use Rattle.model.proofs.Shape.{Sized, shaped}
 
 -- ---- an entry's words and back
 

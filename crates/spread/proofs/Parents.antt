@@ -24,7 +24,7 @@ use Rattle.arms.specs.Arms.{mutationAt, armAt, armsBelow, ShapeBelow}
 use Rattle.arms.specs.declared.Arms.{Arms}
 use Rattle.arms.specs.declared.Shape.{Shape}
 use Rattle.arms.specs.declared.Shape.the-variants.{One, Lose, Two}
-use Rattle.keys.specs.Qubits.{QubitsBelow}
+use Rattle.model.specs.Qubits.{QubitsBelow}
 use Rattle.merging.specs.Progress.{unweighed, Light, Went, started}
 use Rattle.spread.specs.Branches.{parentAt, branchesBelow, liveAt, branchesBy, branchesUpTo}
 use Rattle.merging.specs.declared.Progress.{Progress}

@@ -16,7 +16,7 @@ ghost use Rattle.model.specs.Changes.{changedKeyed};
 ghost use Rattle.model.specs.Store.{keyedWeighed, weightOf, reweighed};
 ghost use Rattle.model.specs.Channels as Channels;
 ghost use Rattle.model.specs.Calls as Calls;
-ghost use Rattle.keys.specs.Qubits.{QubitsBelow};
+ghost use Rattle.model.specs.Qubits.{QubitsBelow};
 ghost use Rattle.model.proofs.Packed.{Packed};
 ghost use Rattle.rebuild.specs.Saved.{Became};
 ghost use Rattle.arms.specs.Arms.{ShapeBelow};

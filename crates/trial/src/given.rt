@@ -1,16 +1,4 @@
-// Items of decimal numbers: a kind, how many values follow (at most six), and these.
-
-pub struct Item {
-    pub end: bool,
-    pub kind: u64,
-    pub a: u64,
-    pub b: u64,
-    pub c: u64,
-    pub d: u64,
-    pub e: u64,
-    pub f: u64,
-    pub at: usize,
-}
+// Items of decimal numbers: a kind, how many values follow, and these.
 
 // A number, and the place behind it.
 pub struct Number {
@@ -19,7 +7,7 @@ pub struct Number {
 }
 
 // The place of the next digit, or the end.
-fn skip(text: &[u8], at: usize) -> usize {
+pub fn skip(text: &[u8], at: usize) -> usize {
     let mut i = at;
     while i < text.len() {
         if 48 <= text[i] {
@@ -49,37 +37,33 @@ fn read_number(text: &[u8], at: usize) -> Number {
     Number { value, at: i }
 }
 
-fn next(text: &[u8], at: usize) -> Number {
-    read_number(text, skip(text, at))
-}
-
 // The next number, if there is one more.
-fn next_if(text: &[u8], at: usize, more: bool) -> Number {
+fn next(text: &[u8], at: usize, more: bool) -> Number {
     if more {
-        return next(text, at);
+        return read_number(text, skip(text, at));
     }
     Number { value: 0, at }
 }
 
-// The item at a place; past the last one, the end.
-pub fn read_item(text: &[u8], at: usize) -> Item {
-    let kind = next(text, at);
-    let count = next(text, kind.at);
-    let a = next_if(text, count.at, 0 < count.value);
-    let b = next_if(text, a.at, 1 < count.value);
-    let c = next_if(text, b.at, 2 < count.value);
-    let d = next_if(text, c.at, 3 < count.value);
-    let e = next_if(text, d.at, 4 < count.value);
-    let f = next_if(text, e.at, 5 < count.value);
-    Item {
-        end: text.len() <= kind.at,
-        kind: kind.value,
-        a: a.value,
-        b: b.value,
-        c: c.value,
-        d: d.value,
-        e: e.value,
-        f: f.value,
-        at: f.at,
+// The word at a place put to v, if there is such a place.
+pub fn put_word(words: &mut [u64], at: usize, v: u64) {
+    if at < words.len() {
+        words[at] = v;
     }
+}
+
+// The item at a place: its kind and its values, at most 17, then zeros. The place behind it is the answer.
+pub fn read_item(text: &[u8], at: usize, item: &mut [u64]) -> usize {
+    let kind = next(text, at, true);
+    let count = next(text, kind.at, true);
+    let mut end = count.at;
+    let mut i: usize = 1;
+    put_word(item, 0, kind.value);
+    while i < 18 {
+        let v = next(text, end, i as u64 <= count.value);
+        put_word(item, i, v.value);
+        end = v.at;
+        i += 1;
+    }
+    end
 }

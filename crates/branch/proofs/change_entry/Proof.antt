@@ -2,7 +2,7 @@
 use mathlib.Core.Path.{subst, _∙_}
 use native.Mathlib.Omega.{arith}
 use lib.ListN.{length-set, length-take, length-drop}
-use Rattle.keys.specs.Qubits.{QubitsBelow}
+use Rattle.model.specs.Qubits.{QubitsBelow}
 use Rattle.branch.proofs.Words.{pauli-flips, pair-flips, rows-written, loss-written}
 use borrow.Author.Needs.{needs}
 use Rattle.branch.proofs.change_entry.Statement.{statement}

@@ -5,7 +5,7 @@ use lib.Bits.{bitXor}
 use Rattle.model.specs.Entries.{Row}
 use Rattle.model.specs.Changes.{flipsBy}
 use Rattle.model.specs.declared.BranchMutation.{BranchMutation}
-use Rattle.keys.specs.Qubits.{QubitsBelow}
+use Rattle.model.specs.Qubits.{QubitsBelow}
 use borrow.Author.Needs.{needs}
 use Rattle.branch.proofs.flips_row.Statement.{statement}
 use Rattle.branch.proofs.flips_row.Tie as tie

@@ -4,7 +4,7 @@ use Prim.Native.Nat.{_≤_, _-_}
 use native.Mathlib.Omega.{arith}
 use borrow.Author.Needs.{needs}
 use Rattle.model.specs.Keys.{bit, maskSum}
-use Rattle.keys.proofs.Sums.{maskSum-none, maskSum-next}
+use Rattle.model.proofs.Sums.{maskSum-none, maskSum-next}
 use Rattle.keys.proofs.loss_key.Statement.{statement}
 use Rattle.keys.proofs.loss_key.Tie as tie
 

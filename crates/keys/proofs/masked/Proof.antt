@@ -1,6 +1,6 @@
 -- `keys::masked` meets its contract: a bit that is not 0 selects the mask. Assumes nothing.
 use mathlib.Core.Path.{_∙_}
-use Rattle.keys.proofs.Picks.{pick-clear, pick-set}
+use Rattle.model.proofs.Picks.{pick-clear, pick-set}
 use borrow.Author.Needs.{needs}
 use Rattle.keys.proofs.masked.Statement.{statement}
 use Rattle.keys.proofs.masked.Tie as tie

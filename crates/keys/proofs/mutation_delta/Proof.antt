@@ -8,7 +8,7 @@ use borrow.Author.Needs.{needs}
 use Rattle.model.specs.Changes.{masksOf}
 use Rattle.model.specs.declared.BranchMutation.{BranchMutation}
 use Rattle.model.specs.declared.Salts.{Salts}
-use Rattle.keys.specs.Qubits.{QubitsBelow}
+use Rattle.model.specs.Qubits.{QubitsBelow}
 use Rattle.keys.proofs.Flips.{pair-masks}
 use Rattle.keys.proofs.mutation_delta.Statement.{statement}
 use Rattle.keys.proofs.mutation_delta.Tie as tie

@@ -5,7 +5,7 @@ use Prim.Native.Nat.{_*_, _≤_, _-_}
 use native.Mathlib.Omega.{arith}
 use borrow.Author.Needs.{needs}
 use Rattle.model.specs.Keys.{pick, xBit, zBit, maskSum}
-use Rattle.keys.proofs.Sums.{maskSum-none, maskSum-next}
+use Rattle.model.proofs.Sums.{maskSum-none, maskSum-next}
 use Rattle.keys.proofs.Flips.{deltas-at}
 use Rattle.keys.proofs.pauli_deltas.Statement.{statement}
 use Rattle.keys.proofs.pauli_deltas.Tie as tie

@@ -5,7 +5,7 @@ use native.Mathlib.Omega.{arith}
 use borrow.Author.Needs.{needs}
 use Rattle.model.specs.Entries.{phaseAt}
 use Rattle.model.specs.Keys.{phaseKey}
-use Rattle.keys.proofs.Sums.{phaseKey-none, phaseKey-next}
+use Rattle.model.proofs.Sums.{phaseKey-none, phaseKey-next}
 use Rattle.keys.proofs.phase_key.Statement.{statement}
 use Rattle.keys.proofs.phase_key.Tie as tie
 

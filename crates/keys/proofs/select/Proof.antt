@@ -1,5 +1,5 @@
 -- `keys::select` meets its contract: a bit that is not 0 selects m. Assumes nothing.
-use Rattle.keys.proofs.Picks.{pick-clear, pick-set}
+use Rattle.model.proofs.Picks.{pick-clear, pick-set}
 use Rattle.keys.proofs.select.Statement.{statement}
 use Rattle.keys.proofs.select.Tie as tie
 

@@ -5,7 +5,7 @@ use native.Mathlib.Omega.{arith}
 use borrow.Author.Needs.{needs}
 use Rattle.model.specs.Entries.{xAt, zAt}
 use Rattle.model.specs.Keys.{wordKey}
-use Rattle.keys.proofs.Sums.{wordKey-none, wordKey-next}
+use Rattle.model.proofs.Sums.{wordKey-none, wordKey-next}
 use Rattle.keys.proofs.word_key.Statement.{statement}
 use Rattle.keys.proofs.word_key.Tie as tie
 

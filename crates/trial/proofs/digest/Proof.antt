@@ -7,22 +7,22 @@ use Rattle.trial.proofs.digest.Statement.{statement}
 use Rattle.trial.proofs.digest.Tie as tie
 
 abbrev Inv-loop : tie.InvT-loop
-Inv-loop bytes h₀ i₀ h i = i ≤ length bytes
+Inv-loop words h₀ i₀ h i = i ≤ length words
 
 abbrev μ-loop : tie.MeasureT-loop
-μ-loop bytes h₀ i₀ h i = length bytes - i
+μ-loop words h₀ i₀ h i = length words - i
 
 loop-holds : tie.Need-loop-holds Inv-loop μ-loop
 loop-holds c = search needs
 
-shared-slice-read-wide : tie.Need-shared-slice-read-wide Inv-loop μ-loop
-shared-slice-read-wide c = search needs
+mul-absorb-word : tie.Need-mul-absorb-word Inv-loop μ-loop
+mul-absorb-word c = search needs
 
-wide-requires : tie.Need-wide-requires Inv-loop μ-loop
-wide-requires c κs = search needs
+shared-slice-read-absorb-word : tie.Need-shared-slice-read-absorb-word Inv-loop μ-loop
+shared-slice-read-absorb-word c = search needs
 
-absorb-byte-requires : tie.Need-absorb-byte-requires Inv-loop μ-loop
-absorb-byte-requires c κs = search needs
+absorb-word-requires : tie.Need-absorb-word-requires Inv-loop μ-loop
+absorb-word-requires c κs = search needs
 
 add-i : tie.Need-add-i Inv-loop μ-loop
 add-i c = search needs
@@ -43,9 +43,9 @@ digest-spec =
     Inv-loop
     μ-loop
     loop-holds
-    shared-slice-read-wide
-    wide-requires
-    absorb-byte-requires
+    mul-absorb-word
+    shared-slice-read-absorb-word
+    absorb-word-requires
     add-i
     loop-less
     loop-again

@@ -1,0 +1,2 @@
+pub mod Noised
+pub mod Livened

@@ -1,0 +1,4 @@
+pub mod Encoded
+pub mod Overs
+pub mod Outputs
+pub mod Records

@@ -1,0 +1,135 @@
+-- `perform::perform` meets its contract. Assumes nothing.
+use mathlib.Core.List.{List}
+use Prim.Native.Nat.{ℕ, _<_}
+use native.Mathlib.Omega.{arith}
+use lib.ListN.{length}
+use denote.Ref.{now}
+use borrow.Author.Tests.{ltb-true}
+use Rattle.model.specs.Calls.{Lent, held}
+use Rattle.perform.specs.Encoding.{kindIn, known, callOf}
+use Rattle.perform.proofs.Encoded.{sheet-as}
+use Rattle.perform.proofs.Records.{made-change, made-sheet, made-look}
+use borrow.Author.Needs.{needs}
+use Rattle.perform.proofs.perform.Statement.{statement}
+use Rattle.perform.proofs.perform.Tie as tie
+
+below : (c : tie.Start) → kindIn (now (c .args .call)) < 15
+unfolding known
+below c = ltb-true (kindIn (now (c .args .call))) 15 (c .pre .1)
+
+abbrev from : tie.After-shared-slice-known2 → tie.Start
+from c = c .before .before .before .before .before
+
+abbrev words : tie.After-shared-slice-known2 → List ℕ
+words c = now (from c .args .call)
+
+abbrev given : tie.After-shared-slice-known2 → Lent
+given c = held (from c .args .h) (now (from c .args .store))
+
+abbrev text : tie.After-shared-slice-known2 → List ℕ
+text c = now (from c .args .text)
+
+shared-slice-read-kind : tie.Need-shared-slice-read-kind
+shared-slice-read-kind c = search needs
+
+make-noise-requires : tie.Need-make-noise-requires
+make-noise-requires c κs = search needs
+
+put-numbers-requires : tie.Need-put-numbers-requires
+put-numbers-requires c κs = search needs
+
+same-length : tie.Need-same-length
+same-length c = search needs
+
+same-length-2 : tie.Need-same-length-2
+same-length-2 c = search needs
+
+returns : tie.Need-returns
+returns c =
+    let a = c .before .before .before .before .before .before .before in
+    let s = c .before .before .before .before .before .before .before .before .before .before in
+    made-change (callOf (length (text s)) (words s)) (given s) (a .make-noise .result) (a .make-noise .last .1 .0) (now (from s .args .out)) (text s) (a .make-noise .ensures (length (text s))) (c .before .before .before .put-numbers .ensures)
+
+make-plain-requires : tie.Need-make-plain-requires
+make-plain-requires c κs = search needs
+
+put-numbers-requires-2 : tie.Need-put-numbers-requires-2
+put-numbers-requires-2 c κs = search needs
+
+same-length-3 : tie.Need-same-length-3
+same-length-3 c = search needs
+
+same-length-4 : tie.Need-same-length-4
+same-length-4 c = search needs
+
+returns-2 : tie.Need-returns-2
+returns-2 c =
+    let a = c .before .before .before .before .before .before .before in
+    let s = c .before .before .before .before .before .before .before .before .before .before .before in
+    made-change (callOf (length (text s)) (words s)) (given s) (a .make-plain .result) (a .make-plain .last .1 .0) (now (from s .args .out)) (text s) (a .make-plain .ensures (length (text s))) (c .before .before .before .put-numbers2 .ensures)
+
+write-sheet-requires : tie.Need-write-sheet-requires
+write-sheet-requires c κs = search needs
+
+put-numbers-requires-3 : tie.Need-put-numbers-requires-3
+put-numbers-requires-3 c κs = search needs
+
+same-length-5 : tie.Need-same-length-5
+same-length-5 c = search needs
+
+same-length-6 : tie.Need-same-length-6
+same-length-6 c = search needs
+
+same-length-7 : tie.Need-same-length-7
+same-length-7 c = search needs
+
+returns-3 : tie.Need-returns-3
+returns-3 c =
+    let a = c .before .before .before .before .before .before .before in
+    let t = c .before .before .before .before .before .before .before .before .before .before in
+    let s = t .before .before .before in
+    sheet-as (length (text s)) (words s) (t .if3 .taken)
+    (made-sheet (length (text s)) (given s) (a .write-sheet .result) (now (from s .args .out)) (text s) (a .write-sheet .ensures .0) (a .write-sheet .ensures .1) (c .before .before .before .put-numbers3 .ensures))
+
+look-requires : tie.Need-look-requires
+look-requires c κs =
+    let t = c .before .before in
+    let s = t .before .before .before in
+    (from s .pre .0, omega (arith, t .before .if2 .left), below (from s), t .if3 .left, from s .pre .2)
+
+same-length-8 : tie.Need-same-length-8
+same-length-8 c = search needs
+
+same-length-9 : tie.Need-same-length-9
+same-length-9 c = search needs
+
+returns-4 : tie.Need-returns-4
+returns-4 c =
+    let s = c .before .before .before .before .before .before .before .before in
+    made-look (text s) (c .before .before .look .ensures (length (text s)))
+
+pub perform-spec : {M : Type 1} → statement M
+perform-spec =
+    tie.close
+    (tie.spec
+    shared-slice-read-kind
+    make-noise-requires
+    put-numbers-requires
+    same-length
+    same-length-2
+    returns
+    make-plain-requires
+    put-numbers-requires-2
+    same-length-3
+    same-length-4
+    returns-2
+    write-sheet-requires
+    put-numbers-requires-3
+    same-length-5
+    same-length-6
+    same-length-7
+    returns-3
+    look-requires
+    same-length-8
+    same-length-9
+    returns-4)

@@ -1,0 +1,243 @@
+// One call, made from its words on a lent store. Word 0 is its kind, words 1 and 2 are whole numbers, words 3 to 17 the bits of rates:
+//    0 Pauli channel at q, three rates   1 loss channel   2 depolarising channel
+//    3 two-qubit Pauli at p and q, 15 rates   4 depolarize2 at p and q   5 reset at q
+//    6 H at q   7 S at q   8 CNOT p to q   9 truncate   10 normalise
+//   11 table, its room in word 1   12 pick, its draw in word 3   13 sheet   14 view, its place in word 1
+// What it gives goes to a record: number, merged, stored, dropped, compared, place and length, and behind these a table's words or a
+// view's. A sheet goes to a text. specs/Encoding.antt says which words are which call, specs/Records.antt what is left.
+use model::Answer;
+use model::Channel;
+use model::Gate;
+use model::Header;
+ghost use mathlib.Core.Path.{_≡_};
+ghost use mathlib.Core.Bool.{true};
+ghost use Prim.Native.Nat.{ℕ, _<_, _≤_};
+ghost use lib.ListN.{length, getD};
+ghost use Rattle.model.specs.Calls as Calls;
+ghost use Rattle.model.specs.Calls.{held, gave, step, over};
+ghost use Rattle.perform.specs.Encoding.{callWords, shownWords, kindIn, ratesIn, roomIn, callOf};
+ghost use Rattle.perform.specs.Encoding as Encoding;
+ghost use Rattle.perform.specs.Records.{numbers, recordWords, numberWords, Made, Looked};
+
+// ---- the words of a call
+
+pub const CALL_WORDS: usize = 18;
+
+// What a table or a view can show: the longest entry has 5 + 3·64 + 6·64 words, the longest table 512.
+pub const SHOWN_WORDS: usize = 581;
+
+// A record begins with the numbers of an answer; what is shown stands behind them.
+pub const NUMBER_WORDS: usize = 7;
+
+pub const RECORD_WORDS: usize = NUMBER_WORDS + SHOWN_WORDS;
+
+// The words have a kind that is known.
+pub fn known(call: &[u64]) -> bool
+    requires { ⌜ length (now call) ≡ callWords ⌝ }
+    ensures { λ r. ⌜ r ≡ Encoding.known (now (call .entry)) ⌝ }
+{
+    call[0] < 15
+}
+
+// A whole number of a call.
+fn whole(call: &[u64], i: usize) -> usize
+    requires { ⌜ i < length (now call) ⌝ }
+    ensures { λ r. ⌜ r ≡ getD (now (call .entry)) i 0 ⌝ }
+{
+    call[i] as usize
+}
+
+// Rate i of a call.
+fn rate(call: &[u64], i: usize) -> f64
+    requires { ⌜ (length (now call) ≡ callWords) × (i < 15) ⌝ }
+    ensures { λ r. ⌜ r ≡ Encoding.rateIn (now (call .entry)) i ⌝ }
+{
+    words::float_of(call[3 + i])
+}
+
+// All 15 rates of a call.
+fn rates(call: &[u64]) -> [f64; 15]
+    requires { ⌜ length (now call) ≡ callWords ⌝ }
+    ensures { λ r. ⌜ r ≡ ratesIn (now (call .entry)) ⌝ }
+{
+    let mut all = [0.0f64; 15];
+    let mut i: usize = 0;
+    while i < 15 {
+        all[i] = rate(call, i);
+        i += 1;
+    }
+    all
+}
+
+// The room of a table.
+fn table_room(call: &[u64]) -> usize
+    requires { ⌜ length (now call) ≡ callWords ⌝ }
+    ensures { λ r. ⌜ r ≡ roomIn (now (call .entry)) ⌝ }
+{
+    let asked = whole(call, 1);
+    if SHOWN_WORDS < asked {
+        return SHOWN_WORDS;
+    }
+    asked
+}
+
+// ---- the calls that change the sum
+
+// A channel: kinds 0 to 4.
+fn make_noise(h: Header, store: &mut [u64], call: &[u64]) -> Answer
+    requires { ⌜ (length (now call) ≡ callWords) × (kindIn (now call) < 5) ⌝ }
+    ensures { λ r. ⌜ ((bytes : ℕ) → gave r (now (store .exit)) ≡ step (callOf bytes (now (call .entry))) (held h (now (store .entry)))) ⌝ }
+{
+    let kind = call[0];
+    let p = whole(call, 1);
+    let q = whole(call, 2);
+    let x = rate(call, 0);
+    if kind == 0 {
+        let y = rate(call, 1);
+        let z = rate(call, 2);
+        return channels::channel(h, store, Channel::Pauli(x, y, z), p);
+    }
+    if kind == 1 {
+        return channels::channel(h, store, Channel::Loss(x), p);
+    }
+    if kind == 2 {
+        return channels::channel(h, store, Channel::Depolarizing(x), p);
+    }
+    if kind == 3 {
+        let all = rates(call);
+        return channels::two_qubit_pauli_error(h, store, all, p, q);
+    }
+    channels::depolarize2(h, store, x, p, q)
+}
+
+// A call that names no rate: a reset, a gate, truncate or normalise, kinds 5 to 10.
+fn make_plain(h: Header, store: &mut [u64], call: &[u64]) -> Answer
+    requires { ⌜ (length (now call) ≡ callWords) × (5 ≤ kindIn (now call)) × (kindIn (now call) < 11) ⌝ }
+    ensures { λ r. ⌜ ((bytes : ℕ) → gave r (now (store .exit)) ≡ step (callOf bytes (now (call .entry))) (held h (now (store .entry)))) ⌝ }
+{
+    let kind = call[0];
+    let p = whole(call, 1);
+    let q = whole(call, 2);
+    if kind == 5 {
+        return channels::reset_loss_channel(h, store, p);
+    }
+    if kind == 6 {
+        return sum::gate(h, store, Gate::H(p));
+    }
+    if kind == 7 {
+        return sum::gate(h, store, Gate::S(p));
+    }
+    if kind == 8 {
+        return sum::gate(h, store, Gate::Cnot(p, q));
+    }
+    if kind == 9 {
+        return sum::truncate(h, store);
+    }
+    sum::normalise(h, store)
+}
+
+// ---- the record
+
+// An answer's numbers at the start of a record.
+fn put_numbers(out: &mut [u64], a: Answer)
+    requires { ⌜ numberWords ≤ length (now out) ⌝ }
+    ensures { λ _. ⌜ now (out .exit) ≡ over (numbers a) (now (out .entry)) ⌝ }
+{
+    let counts = a.counts;
+    let all = [
+        a.number,
+        counts.merged as u64,
+        counts.stored as u64,
+        counts.dropped as u64,
+        counts.compared as u64,
+        a.place as u64,
+        a.length as u64,
+    ];
+    words::copy_words(&mut out[0..NUMBER_WORDS], &all);
+}
+
+// ---- the calls that change nothing
+
+// A table in a record.
+fn show_table(h: Header, store: &[u64], room: usize, out: &mut [u64]) -> Header
+    requires { ⌜ (room ≤ shownWords) × (length (now out) ≡ recordWords) ⌝ }
+    ensures { λ r. ⌜ Looked (Calls.table room) (held h (now (store .entry))) r (now (out .entry)) (now (out .exit)) ⌝ }
+{
+    let end = NUMBER_WORDS + room;
+    let a = table::table(h, store, &mut out[NUMBER_WORDS..end]);
+    put_numbers(out, a);
+    a.header
+}
+
+// A pick in a record.
+fn show_pick(h: Header, store: &[u64], draw: f64, out: &mut [u64]) -> Header
+    requires { ⌜ length (now out) ≡ recordWords ⌝ }
+    ensures { λ r. ⌜ Looked (Calls.pick draw) (held h (now (store .entry))) r (now (out .entry)) (now (out .exit)) ⌝ }
+{
+    let a = table::pick(h, store, draw);
+    put_numbers(out, a);
+    a.header
+}
+
+// A view in a record: the entry's words, its keys among them.
+fn show_view(h: Header, store: &[u64], place: usize, out: &mut [u64]) -> Header
+    requires { ⌜ length (now out) ≡ recordWords ⌝ }
+    ensures { λ r. ⌜ Looked (Calls.view place) (held h (now (store .entry))) r (now (out .entry)) (now (out .exit)) ⌝ }
+{
+    let a = view::view_answer(h, store, place);
+    let shown = view::view_words(h, store, place);
+    let end = NUMBER_WORDS + shown.len();
+    words::copy_words(&mut out[NUMBER_WORDS..end], shown);
+    put_numbers(out, a);
+    a.header
+}
+
+// A table, a pick or a view: kinds 11, 12 and 14.
+fn look(h: Header, store: &[u64], call: &[u64], out: &mut [u64]) -> Header
+    requires { ⌜ (length (now call) ≡ callWords) × (11 ≤ kindIn (now call)) × (kindIn (now call) < 15) × (kindIn (now call) ≡ 13 → ⊥) × (length (now out) ≡ recordWords) ⌝ }
+    ensures { λ r. ⌜ ((bytes : ℕ) → Looked (callOf bytes (now (call .entry))) (held h (now (store .entry))) r (now (out .entry)) (now (out .exit))) ⌝ }
+{
+    let kind = call[0];
+    if kind == 11 {
+        let room = table_room(call);
+        return show_table(h, store, room, out);
+    }
+    if kind == 12 {
+        let draw = rate(call, 0);
+        return show_pick(h, store, draw, out);
+    }
+    let place = whole(call, 1);
+    show_view(h, store, place, out)
+}
+
+// ---- one call
+
+// Any call, on header and store; its record in `out`, and its text, if it is a sheet, in `text`.
+pub fn perform(
+    h: Header,
+    store: &mut [u64],
+    call: &[u64],
+    out: &mut [u64],
+    text: &mut [u8],
+) -> Header
+    requires { ⌜ (length (now call) ≡ callWords) × (Encoding.known (now call) ≡ true) × (length (now out) ≡ recordWords) ⌝ }
+    ensures { λ r. ⌜ Made (callOf (length (now (text .entry))) (now (call .entry))) (held h (now (store .entry))) (held r (now (store .exit))) (now (out .entry)) (now (out .exit)) (now (text .entry)) (now (text .exit)) ⌝ }
+{
+    let kind = call[0];
+    if kind < 5 {
+        let a = make_noise(h, store, call);
+        put_numbers(out, a);
+        return a.header;
+    }
+    if kind < 11 {
+        let a = make_plain(h, store, call);
+        put_numbers(out, a);
+        return a.header;
+    }
+    if kind == 13 {
+        let a = sheet::write_sheet(h, store, text);
+        put_numbers(out, a);
+        return a.header;
+    }
+    look(h, store, call, out)
+}

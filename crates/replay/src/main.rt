@@ -1,0 +1,207 @@
+// Calls from standard input, made one after the other on one store and one text, each as a list of one call (runs::run). A line for each
+// call: its kind and two whole numbers; the record's seven numbers; the header; the digests of the store, of the record and of the text;
+// and up to twenty words that the call wrote or shows. A start has its number in place of the record. differential/replay.py has the
+// cases, and makes both the input and what is to come out.
+use libc::STDIN_FILENO;
+use model::Header;
+use model::Size;
+
+// What is lent: after word 0 the header's seven words, how many words of the store, and how many bytes of the text.
+fn header_of(state: &[u64; 18]) -> Header {
+    Header {
+        size: Size {
+            n: state[1] as usize,
+            k: state[2] as usize,
+            capacity: state[3] as usize,
+        },
+        count: state[4] as usize,
+        threshold: words::float_of(state[5]),
+        cutoff: words::float_of(state[6]),
+        dirty: state[7] != 0,
+    }
+}
+
+fn put_header(state: &mut [u64; 18], h: Header) {
+    let size = h.size;
+    state[1] = size.n as u64;
+    state[2] = size.k as u64;
+    state[3] = size.capacity as u64;
+    state[4] = h.count as u64;
+    state[5] = words::bits_of(h.threshold);
+    state[6] = words::bits_of(h.cutoff);
+    state[7] = h.dirty as u64;
+}
+
+// ---- what is told
+
+fn tell_sum(state: &[u64; 18], store: &[u64]) {
+    trial::text(b", header");
+    trial::numbers(state, 1, 8);
+    trial::text(b", digest");
+    trial::number(trial::digest(store));
+}
+
+fn tell_start(kind: u64, number: u64) {
+    trial::number(kind);
+    trial::text(b" begins");
+    trial::number(number);
+}
+
+// The words that the call wrote or shows, at most twenty. A sheet's are in the text.
+fn tell_shown(kind: u64, record: &[u64]) {
+    let length = trial::word_at(record, 6);
+    if kind == 13 {
+        return;
+    }
+    if length == 0 {
+        return;
+    }
+    trial::text(b", shown");
+    if 20 < length {
+        trial::numbers(record, 7, 27);
+        return;
+    }
+    trial::numbers(record, 7, 7 + length as usize);
+}
+
+fn tell_record(record: &[u64], text: &[u8]) {
+    trial::text(b", record");
+    trial::number(trial::digest(record));
+    trial::text(b", text");
+    trial::number(trial::digest_bytes(text));
+}
+
+// ---- calls
+
+fn call(state: &mut [u64; 18], store: &mut [u64], text: &mut [u8], item: &[u64; 18]) {
+    let mut record = [7u64; 588];
+    let bytes = text.len();
+    let ran = runs::run(header_of(state), store, item, &mut record, text, bytes);
+    put_header(state, ran.header);
+    trial::numbers(item, 0, 3);
+    trial::text(b" gives");
+    trial::numbers(&record, 0, 7);
+    tell_sum(state, store);
+    tell_record(&record, text);
+    tell_shown(item[0], &record);
+    trial::text(b"\n");
+}
+
+// A sum begins, from its size and bounds.
+fn begin_fresh(state: &mut [u64; 18], store: &mut [u64], item: &[u64; 18]) {
+    let size = Size {
+        n: item[1] as usize,
+        k: item[2] as usize,
+        capacity: item[3] as usize,
+    };
+    let threshold = words::float_of(item[4]);
+    let a = sum::fresh(size, threshold, words::float_of(item[5]), store);
+    put_header(state, a.header);
+    tell_start(20, a.number);
+    tell_sum(state, store);
+    trial::text(b"\n");
+}
+
+// .. or from the sheet that the text is.
+fn begin_read(state: &mut [u64; 18], store: &mut [u64], text: &[u8]) {
+    let a = reader::read_sheet(text, store);
+    put_header(state, a.header);
+    tell_start(21, a.number);
+    tell_sum(state, store);
+    trial::text(b"\n");
+}
+
+// ---- items
+
+// 22 to 25, on the store: a word, all words, the words of a large sum, some words shown in lines.
+fn change_words(store: &mut [u64], item: &[u64; 18]) {
+    let kind = item[0];
+    if kind == 22 {
+        trial::put_word(store, item[1] as usize, item[2]);
+    } else if kind == 23 {
+        trial::fill_words(store, item[1]);
+    } else if kind == 24 {
+        trial::lay_large(store);
+    } else {
+        trial::lines(store, item[1] as usize, item[2] as usize);
+    }
+}
+
+// 26 to 28, on the text: a byte, all bytes; a byte told on a line.
+fn change_bytes(text: &mut [u8], item: &[u64; 18]) {
+    let kind = item[0];
+    if kind == 26 {
+        trial::put_byte(text, item[1] as usize, item[2]);
+    } else if kind == 27 {
+        trial::fill_bytes(text, (item[1] % 256) as u8);
+    } else {
+        tell_title((item[1] % 256) as u8);
+    }
+}
+
+fn tell_title(letter: u8) {
+    let line = [letter, 10];
+    trial::text(&line);
+}
+
+// Below 20 a call, 20 and 21 a start, then changes.
+fn act(state: &mut [u64; 18], store: &mut [u64], text: &mut [u8], item: &[u64; 18]) {
+    let kind = item[0];
+    if kind < 20 {
+        call(state, store, text, item);
+    } else if kind == 20 {
+        begin_fresh(state, store, item);
+    } else if kind == 21 {
+        begin_read(state, store, text);
+    } else if kind < 26 {
+        change_words(store, item);
+    } else if kind < 29 {
+        change_bytes(text, item);
+    }
+}
+
+// On the part of the store and of the text that is lent.
+fn step(state: &mut [u64; 18], store: &mut [u64], text: &mut [u8], item: &[u64; 18]) {
+    let len = state[8] as usize;
+    let bytes = state[9] as usize;
+    if store.len() < len {
+        return;
+    }
+    if text.len() < bytes {
+        return;
+    }
+    act(state, &mut store[0..len], &mut text[0..bytes], item);
+}
+
+// The items up to the end of what is given. Item 30 says what is lent.
+fn replay(given: &[u8], store: &mut [u64], text: &mut [u8]) {
+    let mut state = [0u64; 18];
+    let mut item = [0u64; 18];
+    let mut at = 0;
+    let mut i: usize = 0;
+    while i < 20_000 {
+        at = trial::skip(given, at);
+        if given.len() <= at {
+            return;
+        }
+        at = trial::read_item(given, at, &mut item);
+        if item[0] == 30 {
+            state = item;
+        }
+        step(&mut state, store, text, &item);
+        i += 1;
+    }
+}
+
+// Room for the text of the largest sheet.
+fn text_room() -> [u8; 2_700_000] {
+    [0u8; 2_700_000]
+}
+
+fn main() {
+    let mut given = [0u8; 262_144];
+    let mut store = [0u64; 148_736];
+    let mut text = text_room();
+    let n = io::read_full(STDIN_FILENO, &mut given);
+    replay(&given[0..n], &mut store, &mut text);
+}

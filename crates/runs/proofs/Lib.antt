@@ -1,0 +1,4 @@
+pub mod Fitting
+pub mod Filling
+pub mod Reading
+pub mod Promised

@@ -1,0 +1,72 @@
+-- `runs::run_fresh` meets its contract: what it leaves is what the definitions leave, and they keep the promise. Assumes nothing.
+use mathlib.Core.Path.{_≡_, sym, ap, _∙_}
+use mathlib.Core.Bool.{true}
+use lib.ListN.{length}
+use denote.Ref.{now}
+use borrow.Author.Tests.{not-true, not-false}
+use Rattle.model.specs.Calls.{held, fresh}
+use Rattle.model.specs.declared.Header.{Header}
+use Rattle.runs.specs.Runs.{fits, untouched}
+use Rattle.runs.proofs.Promised.{ran-11, ran-on, ran}
+use borrow.Author.Needs.{needs}
+use Rattle.runs.proofs.run_fresh.Statement.{statement}
+use Rattle.runs.proofs.run_fresh.Tie as tie
+
+abbrev from : tie.After-fits2 → tie.Start
+from c = c .before .before .before .before .before
+
+fit : (c : tie.Else1) → let a = from (c .before) .args in fits (a .bytes) (now (a .calls)) (length (now (a .log))) (length (now (a .text))) ≡ true
+fit c = sym (c .before .fits2 .ensures) ∙ not-false _ (c .if1 .left)
+
+fits-requires : tie.Need-fits-requires
+fits-requires c κs = search needs
+
+zero-header-requires : tie.Need-zero-header-requires
+zero-header-requires c κs = search needs
+
+returns : tie.Need-returns
+returns c =
+    let f = c .before .before in
+    let a = from f .args in
+    let s = fresh (a .size) (a .threshold) (a .cutoff) in
+    ran (a .bytes) (now (a .calls)) s (now (a .store)) (now (a .log)) (now (a .text))
+    (ap (λ (h : Header). untouched 11 (held h (now (a .store))) (now (a .log)) (now (a .text))) (c .zero-header .ensures)
+    ∙ ran-11 (a .bytes) (now (a .calls)) s (now (a .store)) (now (a .log)) (now (a .text)) (sym (f .fits2 .ensures) ∙ not-true _ (c .before .if1 .taken)))
+
+fresh-requires : tie.Need-fresh-requires
+fresh-requires c κs = search needs
+
+run-after-requires : tie.Need-run-after-requires
+run-after-requires c κs = fit (c .before .before .before .before .before .before .before)
+
+same-length : tie.Need-same-length
+same-length c = search needs
+
+same-length-2 : tie.Need-same-length-2
+same-length-2 c = search needs
+
+same-length-3 : tie.Need-same-length-3
+same-length-3 c = search needs
+
+returns-2 : tie.Need-returns-2
+returns-2 c =
+    let t = c .before .before .before .before .before .before .before .before .before .before .before .before in
+    let e = c .before .before .before .before .before .before .before .before .before .before .before .before .before .before in
+    let a = from (e .before) .args in
+    let s = fresh (a .size) (a .threshold) (a .cutoff) in
+    ran (a .bytes) (now (a .calls)) s (now (a .store)) (now (a .log)) (now (a .text))
+    (ran-on (a .bytes) (now (a .calls)) s (now (a .store)) (now (a .log)) (now (a .text)) (t .fresh .result) (t .fresh .last .1 .1 .1 .0) (fit e) (t .fresh .ensures) (c .before .before .before .before .before .before .run-after .ensures))
+
+pub run-fresh-spec : {M : Type 1} → statement M
+run-fresh-spec =
+    tie.close
+    (tie.spec
+    fits-requires
+    zero-header-requires
+    returns
+    fresh-requires
+    run-after-requires
+    same-length
+    same-length-2
+    same-length-3
+    returns-2)

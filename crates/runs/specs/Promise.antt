@@ -1,0 +1,85 @@
+-- Demand 3 as a promise of compiled code: what comes back of a run from a start on, said by the list kept without keys. The engine's
+-- definitions do not occur here; what the calls gave is read from the records and the text. Assumes nothing.
+use Prim.Native.Nat.{ℕ}
+use mathlib.Core.Path.{_≡_}
+use mathlib.Core.Bool.{Bool, true, false}
+use mathlib.Core.List.{List, [], _∷_, map}
+use lib.ListN.{length, take, drop, getD}
+use Rattle.model.specs.Entries.{Entry, strip}
+use Rattle.model.specs.Sum.{Result, done, refused}
+use Rattle.model.specs.Calls.{Call, noise, reset, gate, truncate, normalise, table, pick, sheet, view, Sum, held, sumOf, rebuiltEntries, Start, startDirty, zeroHeader}
+use Rattle.model.specs.Keyless.{keylessStart}
+use Rattle.perform.specs.Records.{numberWords, recordWords}
+use Rattle.model.specs.Demand3.{keylessAfter, Shown, withoutKeys, allKeylessShown, allComparisons, flagAfter}
+use Rattle.runs.specs.Runs.{Came, untouched, fits, callsIn}
+
+-- ---- what is read from a call's record and its stretch of text
+
+-- n words behind the numbers; of a sheet, n bytes of text
+unfoldable pub outputIn : Call → ℕ → List ℕ → List ℕ → List ℕ
+outputIn (noise c) n r t = take n (drop numberWords r)
+outputIn (reset q) n r t = take n (drop numberWords r)
+outputIn (gate g) n r t = take n (drop numberWords r)
+outputIn truncate n r t = take n (drop numberWords r)
+outputIn normalise n r t = take n (drop numberWords r)
+outputIn (table room) n r t = take n (drop numberWords r)
+outputIn (pick draw) n r t = take n (drop numberWords r)
+outputIn (sheet room) n r t = take n t
+outputIn (view place) n r t = take n (drop numberWords r)
+
+-- number, merged, stored, dropped, (compared,) place, and as much output as the length says
+abbrev pub shownIn : Call → List ℕ → List ℕ → Shown
+shownIn c r t =
+    record {
+      number = getD r 0 0;
+      merged = getD r 1 0;
+      stored = getD r 2 0;
+      dropped = getD r 3 0;
+      place = getD r 5 0;
+      output = withoutKeys c (outputIn c (getD r 6 0) r t);
+    }
+
+unfoldable pub readShown : ℕ → List Call → List ℕ → List ℕ → List Shown
+readShown bytes [] log text = []
+readShown bytes (c ∷ cs) log text =
+    shownIn c (take recordWords log) (take bytes text) ∷ readShown bytes cs (drop recordWords log) (drop bytes text)
+
+-- the full comparisons
+unfoldable pub readCompared : List Call → List ℕ → List ℕ
+readCompared [] log = []
+readCompared (c ∷ cs) log = getD (take recordWords log) 4 0 ∷ readCompared cs (drop recordWords log)
+
+-- ---- the promise
+
+-- the calls cs on the list m, begun dirty or not
+pub record Agreed (bytes : ℕ) (cs : List Call) (m : Sum Entry) (dirty : Bool) (o : Came) : Type 0 where
+  pub number : o .number ≡ 0
+  -- the same size and bounds, and the same entries in the same order, word for word but for the keys
+  pub size : o .lent .header .size ≡ keylessAfter cs m .size
+  pub threshold : o .lent .header .threshold ≡ keylessAfter cs m .threshold
+  pub cutoff : o .lent .header .cutoff ≡ keylessAfter cs m .cutoff
+  pub count : o .lent .header .count ≡ length (keylessAfter cs m .entries)
+  pub entries : map strip (sumOf (o .lent) .entries) ≡ keylessAfter cs m .entries
+  -- the flag exactly as document 01 says; without it each stored key is the one worked out from its entry
+  pub flag : o .lent .header .dirty ≡ flagAfter cs m dirty
+  pub keys : o .lent .header .dirty ≡ false → sumOf (o .lent) .entries ≡ rebuiltEntries (o .lent .header .size .n) (sumOf (o .lent) .entries)
+  -- in the records and the text: the same numbers, counts, places, table words, sheet bytes and views without keys; and the comparisons
+  pub shown : readShown bytes cs (o .log) (o .text) ≡ allKeylessShown cs m
+  pub compared : readCompared cs (o .log) ≡ allComparisons cs m
+
+-- the list's start is refused: so is the run's, with its number, a header of zeros and nothing written
+pub record Refused (n : ℕ) (w log text : List ℕ) (o : Came) : Type 0 where
+  pub not-0 : n ≡ 0 → ⊥
+  pub all : o ≡ untouched n (held zeroHeader w) log text
+
+unfoldable pub Begun : ℕ → List Call → Start → List ℕ → List ℕ → List ℕ → Came → Result (Sum Entry) → Type 0
+Begun bytes cs b w log text o (refused n) = Refused n w log text o
+Begun bytes cs b w log text o (done m) = Agreed bytes cs m (startDirty b) o
+
+unfoldable pub PromiseIf : Bool → ℕ → List Call → Start → List ℕ → List ℕ → List ℕ → Came → Type 0
+PromiseIf false bytes cs b w log text o = Refused 11 w log text o
+PromiseIf true bytes cs b w log text o = Begun bytes cs b w log text o (keylessStart b (length w))
+
+-- THE PROMISE, of a store's words w, a log and a text, and of what came back
+unfoldable pub Promise : ℕ → List ℕ → Start → List ℕ → List ℕ → List ℕ → Came → Type 0
+Promise bytes calls b w log text o = PromiseIf (fits bytes calls (length log) (length text)) bytes (callsIn bytes calls) b w log text o
