@@ -43,9 +43,11 @@ def large():
 
 
 def largest_sheet():
-    """Written, read into a store of sevens, and written back."""
+    """Every entry with 64 coefficients, most of them 0: written, read into a store of sevens, and written back."""
     run = large()
-    text.fill(2_700_000, 120)
+    for e in range(256):
+        run.put(e * 581 + 4, 64)
+    text.fill(3_200_000, 120)
     run.call(sheet)
     written = text.bytes.rstrip(b"x")
     text.become(written)

@@ -194,8 +194,8 @@ fn replay(given: &[u8], store: &mut [u64], text: &mut [u8]) {
 }
 
 // Room for the text of the largest sheet.
-fn text_room() -> [u8; 2_700_000] {
-    [0u8; 2_700_000]
+fn text_room() -> [u8; 3_200_000] {
+    [0u8; 3_200_000]
 }
 
 fn main() {
