@@ -18,25 +18,14 @@ def key(e):
     return second.word_key(e.rows) ^ second.phase_loss_key(e.rows, e.loss, N)
 
 
-def merge(entries, branches, threshold, cutoff):
-    """Branches merged by likeness alone. Comparisons: the merged, and the unlike entries of equal key that were passed."""
-    merged = stored = dropped = clashes = 0
-    for branch in branches:
-        found = None
-        for e in entries:
-            if second.alike(e, branch, threshold):
-                found = e
-                break
-            clashes += key(e) == key(branch)
-        if found:
-            found.weight = found.weight + branch.weight
-            merged += 1
-        elif branch.weight > cutoff:
-            entries.append(branch)
-            stored += 1
-        else:
-            dropped += 1
-    return second.Counts(merged, stored, dropped, merged + clashes)
+def find(entries, branch, threshold):
+    """By likeness alone. Comparisons: the one that merges, and the unlike entries of equal key that were passed."""
+    clashes = 0
+    for e in entries:
+        if second.alike(e, branch, threshold):
+            return e, clashes + 1
+        clashes += key(e) == key(branch)
+    return None, clashes
 
 
 def without_keys(words):
@@ -95,7 +84,7 @@ def tell(header, words, dirty, lines):
 
 
 def main():
-    keyed_merge, second.merge = second.merge, merge
+    second.find = find
     calls = some_calls(random.Random(4))
     give(FRESH, N, K, CAPACITY, THRESHOLD, CUTOFF, LENGTH)
     for call in calls:
@@ -106,4 +95,3 @@ def main():
     start = second.read_sheet(sheet_text, [7] * (CAPACITY * LENGTH))
     header, words, lines, _ = run(start, calls)
     tell(header, words, flag_after(True, calls, lines), lines)
-    second.merge = keyed_merge

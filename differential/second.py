@@ -204,16 +204,22 @@ def alike(existing, other, threshold):
 # Point 3: branches merged into the list, one by one.
 
 
+def find(entries, branch, threshold):
+    """The first entry that is alike, and how many were compared in full: those whose stored key is the branch's."""
+    compared = 0
+    for e in entries:
+        if e.full_key() == branch.full_key():
+            compared += 1
+            if alike(e, branch, threshold):
+                return e, compared
+    return None, compared
+
+
 def merge(entries, branches, threshold, cutoff):
     merged = stored = dropped = compared = 0
     for branch in branches:
-        found = None
-        for e in entries:
-            if e.full_key() == branch.full_key():
-                compared += 1
-                if alike(e, branch, threshold):
-                    found = e
-                    break
+        found, tested = find(entries, branch, threshold)
+        compared += tested
         if found:
             found.weight = found.weight + branch.weight
             merged += 1
