@@ -11,12 +11,16 @@ use Rattle.model.specs.declared.Header.{Header}
 use Rattle.perform.specs.Encoding.{kindIn, firstIn, shownWords, roomIn, callBy, callOf}
 use Rattle.perform.specs.Records.{Made, Looked}
 
+-- the call that the words say, and what it leaves
+pub made-by : (w : List ℕ) {c : Call} → ((bytes : ℕ) → c ≡ callOf bytes w) → (x : Lent) {l : Left} → l ≡ step c x → (bytes : ℕ) → l ≡ step (callOf bytes w) x
+made-by w q x p bytes = p ∙ ap (λ (d : Call). step d x) (q bytes)
+
 module _ (k : ℕ) (w : List ℕ) {c : Call} (e : kindIn w ≡ k) (q : (bytes : ℕ) → c ≡ callBy bytes k w) where
-  call-is : (bytes : ℕ) → c ≡ callOf bytes w
+  pub call-is : (bytes : ℕ) → c ≡ callOf bytes w
   call-is bytes = q bytes ∙ ap (λ (j : ℕ). callBy bytes j w) (sym e)
 
   pub made-as : (x : Lent) {l : Left} → l ≡ step c x → (bytes : ℕ) → l ≡ step (callOf bytes w) x
-  made-as x p bytes = p ∙ ap (λ (d : Call). step d x) (call-is bytes)
+  made-as = made-by w call-is
 
   pub looked-as : (x : Lent) {h : Header} {r r' : List ℕ} → Looked c x h r r' → (bytes : ℕ) → Looked (callOf bytes w) x h r r'
   looked-as x {h} {r} {r'} p bytes = subst (λ (d : Call). Looked d x h r r') (call-is bytes) p

@@ -13,9 +13,10 @@ ghost use mathlib.Core.Path.{_≡_};
 ghost use mathlib.Core.Bool.{true};
 ghost use Prim.Native.Nat.{ℕ, _<_, _≤_};
 ghost use lib.ListN.{length, getD};
+ghost use Rattle.model.specs.Channels.{one};
 ghost use Rattle.model.specs.Calls as Calls;
 ghost use Rattle.model.specs.Calls.{held, gave, step, over};
-ghost use Rattle.perform.specs.Encoding.{callWords, shownWords, kindIn, ratesIn, roomIn, callOf};
+ghost use Rattle.perform.specs.Encoding.{callWords, shownWords, kindIn, firstIn, ratesIn, roomIn, callOf};
 ghost use Rattle.perform.specs.Encoding as Encoding;
 ghost use Rattle.perform.specs.Records.{numbers, recordWords, numberWords, Made, Looked};
 
@@ -81,6 +82,41 @@ fn table_room(call: &[u64]) -> usize
     asked
 }
 
+// The channel on one qubit that the words say: kinds 0, 1 and 2.
+fn channel_in(call: &[u64]) -> Channel
+    requires { ⌜ (length (now call) ≡ callWords) × (kindIn (now call) < 3) ⌝ }
+    ensures { λ r. ⌜ ((bytes : ℕ) → Calls.noise (one r (firstIn (now (call .entry)))) ≡ callOf bytes (now (call .entry))) ⌝ }
+{
+    let kind = call[0];
+    let x = rate(call, 0);
+    if kind == 0 {
+        let y = rate(call, 1);
+        let z = rate(call, 2);
+        return Channel::Pauli(x, y, z);
+    }
+    if kind == 1 {
+        return Channel::Loss(x);
+    }
+    Channel::Depolarizing(x)
+}
+
+// The gate that the words say: kinds 6, 7 and 8.
+fn gate_in(call: &[u64]) -> Gate
+    requires { ⌜ (length (now call) ≡ callWords) × (6 ≤ kindIn (now call)) × (kindIn (now call) < 9) ⌝ }
+    ensures { λ r. ⌜ ((bytes : ℕ) → Calls.gate r ≡ callOf bytes (now (call .entry))) ⌝ }
+{
+    let kind = call[0];
+    let p = whole(call, 1);
+    if kind == 6 {
+        return Gate::H(p);
+    }
+    if kind == 7 {
+        return Gate::S(p);
+    }
+    let q = whole(call, 2);
+    Gate::Cnot(p, q)
+}
+
 // ---- the calls that change the sum
 
 // A channel: kinds 0 to 4.
@@ -90,23 +126,16 @@ fn make_noise(h: Header, store: &mut [u64], call: &[u64]) -> Answer
 {
     let kind = call[0];
     let p = whole(call, 1);
+    if kind < 3 {
+        let c = channel_in(call);
+        return channels::channel(h, store, c, p);
+    }
     let q = whole(call, 2);
-    let x = rate(call, 0);
-    if kind == 0 {
-        let y = rate(call, 1);
-        let z = rate(call, 2);
-        return channels::channel(h, store, Channel::Pauli(x, y, z), p);
-    }
-    if kind == 1 {
-        return channels::channel(h, store, Channel::Loss(x), p);
-    }
-    if kind == 2 {
-        return channels::channel(h, store, Channel::Depolarizing(x), p);
-    }
     if kind == 3 {
         let all = rates(call);
         return channels::two_qubit_pauli_error(h, store, all, p, q);
     }
+    let x = rate(call, 0);
     channels::depolarize2(h, store, x, p, q)
 }
 
@@ -116,19 +145,13 @@ fn make_plain(h: Header, store: &mut [u64], call: &[u64]) -> Answer
     ensures { λ r. ⌜ ((bytes : ℕ) → gave r (now (store .exit)) ≡ step (callOf bytes (now (call .entry))) (held h (now (store .entry)))) ⌝ }
 {
     let kind = call[0];
-    let p = whole(call, 1);
-    let q = whole(call, 2);
     if kind == 5 {
-        return channels::reset_loss_channel(h, store, p);
+        let q = whole(call, 1);
+        return channels::reset_loss_channel(h, store, q);
     }
-    if kind == 6 {
-        return sum::gate(h, store, Gate::H(p));
-    }
-    if kind == 7 {
-        return sum::gate(h, store, Gate::S(p));
-    }
-    if kind == 8 {
-        return sum::gate(h, store, Gate::Cnot(p, q));
+    if kind < 9 {
+        let g = gate_in(call);
+        return sum::gate(h, store, g);
     }
     if kind == 9 {
         return sum::truncate(h, store);

@@ -3,11 +3,11 @@ use model::Answer;
 use model::Header;
 use model::Size;
 ghost use mathlib.Core.Path.{_≡_};
-ghost use mathlib.Core.List.{map};
+ghost use mathlib.Core.List.{[], _∷_, _++_, map};
 ghost use Prim.Native.Nat.{_+_, _*_, _≤_};
-ghost use lib.ListN.{length, getD};
+ghost use lib.ListN.{length, take, drop, getD};
 ghost use Rattle.model.specs.Lists.{groups, joined};
-ghost use Rattle.model.specs.Entries.{entryLen, entryOf, strip, listed};
+ghost use Rattle.model.specs.Entries.{headLen, coefsLen, entryLen, entryOf, strip, listed};
 ghost use Rattle.model.specs.Sheet.{columns, field, line, lineLen, sheetText};
 ghost use Rattle.model.specs.Calls as Calls;
 ghost use Rattle.checks.specs.Sized.{Within};
@@ -76,20 +76,37 @@ pub fn entry_text_len(size: Size, count: u64) -> usize
     (1 + count as usize + 2 * n) * 64
 }
 
+// An entry's own line: its weight bits, its loss word, its coefficient count.
+fn put_head(out: &mut [u8], e: &[u64])
+    requires { ⌜ (length (now out) ≡ lineLen 3) × (headLen ≤ length (now e)) ⌝ }
+    ensures { λ _. ⌜ now (out .exit) ≡ line (getD (now (e .entry)) 0 0 ∷ getD (now (e .entry)) 1 0 ∷ getD (now (e .entry)) 4 0 ∷ []) ⌝ }
+{
+    let head = [e[0], e[1], e[4]];
+    put_line(out, &head);
+}
+
+// The lines of its `count` coefficients and of its rows.
+fn put_body(out: &mut [u8], e: &[u64], size: Size, count: usize)
+    requires { ⌜ Within size × (length (now e) ≡ entryLen size) × (count ≤ size .k) ⌝ }
+    requires { ⌜ length (now out) ≡ (count + 2 * size .n) * lineLen 3 ⌝ }
+    ensures { λ _. ⌜ now (out .exit) ≡ joined (map line (groups 3 count (take (coefsLen size) (drop headLen (now (e .entry)))))) ++ joined (map line (groups 3 (2 * size .n) (drop (headLen + coefsLen size) (now (e .entry))))) ⌝ }
+{
+    let rows = 5 + 3 * size.k;
+    let m = 2 * size.n;
+    let end = 64 * count;
+    put_lines(&mut out[0..end], &e[5..rows], count);
+    put_lines(&mut out[end..], &e[rows..], m);
+}
+
 // An entry's lines.
 pub fn put_entry(out: &mut [u8], e: &[u64], size: Size)
     requires { ⌜ Within size × (length (now e) ≡ entryLen size) × (getD (now e) 4 0 ≤ size .k) ⌝ }
     requires { ⌜ length (now out) ≡ (1 + getD (now e) 4 0 + 2 * size .n) * lineLen 3 ⌝ }
     ensures { λ _. ⌜ now (out .exit) ≡ entryText (size .n) (strip (entryOf size (now (e .entry)))) ⌝ }
 {
-    let n = size.n;
-    let rows = 5 + 3 * size.k;
     let count = e[4] as usize;
-    let coefs_end = 64 + 64 * count;
-    let head = [e[0], e[1], e[4]];
-    put_line(&mut out[0..64], &head);
-    put_lines(&mut out[64..coefs_end], &e[5..rows], count);
-    put_lines(&mut out[coefs_end..], &e[rows..], 2 * n);
+    put_head(&mut out[0..64], e);
+    put_body(&mut out[64..], e, size, count);
 }
 
 // The bytes of the lines of all listed entries.
