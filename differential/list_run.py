@@ -64,7 +64,7 @@ def run(start, calls):
         record = [a.number, *a.counts, shown.place, shown.length, *(without_keys(shown.words) if call.kind == VIEW else shown.words)]
         record += [7] * (7 + SHOWN - len(record))
         text = shown.text + b"x" * (TEXT - len(shown.text))
-        lines.append(f"{numbers([call.kind])}:{numbers(record[:7])}, record {digest(record)}, text {digest_bytes(text)}")
+        lines.append(f"{numbers([call.kind])}:{numbers(record[:7])}, record {digest(record)}, text {digest(text)}")
         header, words, last = a.header._replace(dirty=True), a.words, shown.text
     return header, words, lines, last
 

@@ -121,17 +121,12 @@ def view(place):
     return Call(VIEW, place, 0, [], make)
 
 
-def digest_bytes(data):
-    """FNV-1a."""
+def digest(numbers):
+    """FNV-1a, over bytes or over words."""
     d = 0xCBF29CE484222325
-    for byte in data:
-        d = (d ^ byte) * 0x100000001B3 & second.WORD
+    for v in numbers:
+        d = (d ^ v) * 0x100000001B3 & second.WORD
     return d
-
-
-def digest(words):
-    """Of the words' bytes, low byte first."""
-    return digest_bytes(b"".join(word.to_bytes(8, "little") for word in words))
 
 
 def numbers(values):
@@ -161,11 +156,11 @@ class Text:
     """The lent text, which all sums share; its digest is worked out again only where it changed."""
 
     def __init__(self):
-        self.bytes, self.digest = b"", digest_bytes(b"")
+        self.bytes, self.digest = b"", digest(b"")
 
     def put(self, data):
         if data != self.bytes:
-            self.bytes, self.digest = data, digest_bytes(data)
+            self.bytes, self.digest = data, digest(data)
 
     def fill(self, length, v):
         lend(bytes=length)

@@ -102,12 +102,11 @@ fn wide(b: u8) -> u64 {
     b as u64
 }
 
-// Where FNV-1a begins.
+// Where FNV-1a begins, and what it multiplies by.
 const DIGEST_OF_NOTHING: u64 = 0xcbf2_9ce4_8422_2325;
 
-// The low byte of a word taken into a digest.
-fn absorb_byte(h: u64, w: u64) -> u64 {
-    words::wrapping_mul(h ^ (w % 256), 0x0100_0000_01b3)
+fn absorb(h: u64, w: u64) -> u64 {
+    words::wrapping_mul(h ^ w, 0x0100_0000_01b3)
 }
 
 // FNV-1a over the bytes.
@@ -115,29 +114,18 @@ pub fn digest_bytes(bytes: &[u8]) -> u64 {
     let mut h: u64 = DIGEST_OF_NOTHING;
     let mut i = 0;
     while i < bytes.len() {
-        h = absorb_byte(h, wide(bytes[i]));
+        h = absorb(h, wide(bytes[i]));
         i += 1;
     }
     h
 }
 
-fn absorb_half(h: u64, w: u64) -> u64 {
-    let a = absorb_byte(h, w);
-    let b = absorb_byte(a, w / 256);
-    let c = absorb_byte(b, w / 0x1_0000);
-    absorb_byte(c, w / 0x100_0000)
-}
-
-fn absorb_word(h: u64, w: u64) -> u64 {
-    absorb_half(absorb_half(h, w), w / 0x1_0000_0000)
-}
-
-// FNV-1a over the bytes of the words, low byte first.
+// The same, word by word.
 pub fn digest(words: &[u64]) -> u64 {
     let mut h: u64 = DIGEST_OF_NOTHING;
     let mut i = 0;
     while i < words.len() {
-        h = absorb_word(h, words[i]);
+        h = absorb(h, words[i]);
         i += 1;
     }
     h

@@ -15,14 +15,14 @@ abbrev μ-loop : tie.MeasureT-loop
 loop-holds : tie.Need-loop-holds Inv-loop μ-loop
 loop-holds c = search needs
 
-mul-absorb-word : tie.Need-mul-absorb-word Inv-loop μ-loop
-mul-absorb-word c = search needs
+mul-absorb : tie.Need-mul-absorb Inv-loop μ-loop
+mul-absorb c = search needs
 
-shared-slice-read-absorb-word : tie.Need-shared-slice-read-absorb-word Inv-loop μ-loop
-shared-slice-read-absorb-word c = search needs
+shared-slice-read-absorb : tie.Need-shared-slice-read-absorb Inv-loop μ-loop
+shared-slice-read-absorb c = search needs
 
-absorb-word-requires : tie.Need-absorb-word-requires Inv-loop μ-loop
-absorb-word-requires c κs = search needs
+absorb-requires : tie.Need-absorb-requires Inv-loop μ-loop
+absorb-requires c κs = search needs
 
 add-i : tie.Need-add-i Inv-loop μ-loop
 add-i c = search needs
@@ -43,9 +43,9 @@ digest-spec =
     Inv-loop
     μ-loop
     loop-holds
-    mul-absorb-word
-    shared-slice-read-absorb-word
-    absorb-word-requires
+    mul-absorb
+    shared-slice-read-absorb
+    absorb-requires
     add-i
     loop-less
     loop-again

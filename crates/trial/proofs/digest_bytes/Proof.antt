@@ -21,8 +21,8 @@ shared-slice-read-wide c = search needs
 wide-requires : tie.Need-wide-requires Inv-loop μ-loop
 wide-requires c κs = search needs
 
-absorb-byte-requires : tie.Need-absorb-byte-requires Inv-loop μ-loop
-absorb-byte-requires c κs = search needs
+absorb-requires : tie.Need-absorb-requires Inv-loop μ-loop
+absorb-requires c κs = search needs
 
 add-i : tie.Need-add-i Inv-loop μ-loop
 add-i c = search needs
@@ -45,7 +45,7 @@ digest-bytes-spec =
     loop-holds
     shared-slice-read-wide
     wide-requires
-    absorb-byte-requires
+    absorb-requires
     add-i
     loop-less
     loop-again
