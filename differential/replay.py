@@ -1,4 +1,6 @@
-"""What crates/replay is given, and what it must write."""
+"""What crates/replay is given, and what it must write: the cases of this folder, and then the sample of the published Rust's answers."""
+
+import pathlib
 
 import calls
 import fresh_sums
@@ -10,6 +12,16 @@ import sheets_written
 from telling import given
 
 
+def sample():
+    """In sample.txt items begin with a digit, and the answers to them with a blank."""
+    for line in pathlib.Path(__file__).with_name("sample.txt").read_text().splitlines():
+        if line.startswith(" "):
+            print(line)
+        elif not line.startswith("#"):
+            given.append(line.split())
+
+
 def main():
     for cases in marked_runs, fresh_sums, calls, sampling, sheets_written, sheets_read, large_sum:
         cases.main()
+    sample()

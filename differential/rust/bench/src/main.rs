@@ -1,0 +1,213 @@
+//! Times of our calls and of the published Rust's, side by side in one process, on the same sums.
+//!
+//!     bench [MILLISECONDS]     for each side of a row, in each of three turns (3, if none is given)
+//!
+//! Before each run the sum is copied anew, untimed, so it is in the cache as far as it fits; nothing else is cleared. A row's two sides
+//! take turns. What a call gives is used. The Rust has a quick hash in place of document 01's word key, and no probe.
+
+mod sums;
+mod timing;
+
+use oracle::{Call, Published, Sum, entry_len};
+use ours::Ours;
+use std::hint::black_box;
+use std::time::Duration;
+use sums::{Kin, sum};
+use timing::{Runs, Time};
+
+/// What is timed: one call, or what the Rust has no single call for.
+#[derive(Clone, Copy)]
+enum Timed {
+    Call(Call),
+    Table,
+    Pick,
+    WriteSheet,
+    ReadSheet,
+}
+
+struct Row {
+    name: &'static str,
+    sum: Sum,
+    timed: Timed,
+}
+
+struct Measured {
+    name: &'static str,
+    n: usize,
+    k: usize,
+    entries: usize,
+    capacity: usize,
+    ours: Time,
+    theirs: Option<Time>,
+    /// Of the sheet.
+    bytes: usize,
+}
+
+// ---- rows
+
+/// Every kind of call, on `count` entries. A sum whose branches would need more than 256 entries is left out.
+fn rows(n: usize, k: usize, count: usize) -> Vec<Row> {
+    let mut rows = Vec::new();
+    let mut row = |name, sum: &Sum, timed| rows.push(Row { name, sum: sum.clone(), timed });
+    let pauli = Timed::Call(Call::Pauli(0, [0.01, 0.02, 0.03]));
+    let strangers = sum(n, k, count, Kin::Strangers, 0.0);
+    let one = sum(n, k, count, Kin::OneQubit, 0.0);
+    let two = sum(n, k, count / 16 * 16, Kin::TwoQubits, 0.0);
+    let halves = sum(n, k, count, Kin::HalfLost, 0.0);
+
+    row("Pauli, all merge", &one, pauli);
+    row("Pauli, all merge, dirty", &Sum { dirty: true, ..one.clone() }, pauli);
+    row("Pauli, all dropped", &sum(n, k, count, Kin::Strangers, 1e-3), Timed::Call(Call::Pauli(0, [1e-3; 3])));
+    if 4 * count <= 256 {
+        row("Pauli, all stored", &strangers, pauli);
+        row("Pauli, all stored, dirty", &Sum { dirty: true, ..strangers.clone() }, pauli);
+    }
+    row("two-qubit Pauli, all merge", &two, Timed::Call(Call::TwoPauli(0, 1, [0.01; 15])));
+    row("depolarize2, all merge", &two, Timed::Call(Call::Depolarize2(0, 1, 0.15)));
+    if 16 * count <= 256 {
+        row("depolarize2, all stored", &strangers, Timed::Call(Call::Depolarize2(0, 1, 0.15)));
+    }
+    row("loss, half lost, all merge", &halves, Timed::Call(Call::Loss(0, 0.1)));
+    if 2 * count <= 256 {
+        row("loss, all stored", &strangers, Timed::Call(Call::Loss(0, 0.1)));
+    }
+    row("reset, half lost, all merge", &halves, Timed::Call(Call::Reset(0)));
+    row("truncate, none goes", &strangers, Timed::Call(Call::Truncate));
+    row("truncate, half goes", &half_light(&strangers), Timed::Call(Call::Truncate));
+    row("normalise", &strangers, Timed::Call(Call::Normalise));
+    row("H", &strangers, Timed::Call(Call::H(0)));
+    row("S", &strangers, Timed::Call(Call::S(0)));
+    row("CNOT", &strangers, Timed::Call(Call::Cnot(0, 1)));
+    row("table", &strangers, Timed::Table);
+    row("table and pick", &strangers, Timed::Pick);
+    row("write sheet", &strangers, Timed::WriteSheet);
+    row("read sheet", &strangers, Timed::ReadSheet);
+    rows
+}
+
+/// Every second entry's weight is below the cutoff.
+fn half_light(sum: &Sum) -> Sum {
+    let mut s = Sum { cutoff: 1e-6, ..sum.clone() };
+    for e in s.words.chunks_exact_mut(2 * entry_len(sum.n, sum.k)) {
+        e[0] = 1e-9f64.to_bits();
+    }
+    s
+}
+
+// ---- one row
+
+/// The capacity that the call just needs: its branches are held before it truncates.
+fn needed(row: &Row) -> usize {
+    let mut p = Published::load(&row.sum);
+    match row.timed {
+        Timed::Call(call) => p.call(call).held.max(entries(&row.sum)),
+        _ => entries(&row.sum),
+    }
+}
+
+fn entries(s: &Sum) -> usize {
+    s.words.len() / entry_len(s.n, s.k)
+}
+
+fn measure(row: &Row, capacity: usize, span: Duration) -> Measured {
+    let start = Ours::holding(&row.sum, capacity);
+    let mut plain = Published::load(&row.sum).plain();
+    let mut text = vec![0u8; 4 << 20];
+    let bytes = start.write_sheet(&mut text).length;
+    let sheet = text[..bytes].to_vec();
+    let (mut ours, mut theirs) = (Runs::new(), Runs::new());
+    for _ in 0..3 {
+        match row.timed {
+            Timed::Call(call) => {
+                ours.add(span, || start.clone(), |o| o.call(call));
+                theirs.add(span, || plain.clone(), |p| p.call(call));
+            }
+            Timed::Table => {
+                ours.add(span, || vec![0; 512], |out| start.table(out));
+                theirs.add(span, || (), |_| plain.sampled());
+            }
+            Timed::Pick => {
+                ours.add(span, || (), |_| start.pick(black_box(0.5)));
+                theirs.add(span, || (), |_| plain.sampled().pick(black_box(0.5)));
+            }
+            Timed::WriteSheet => ours.add(span, || (), |_| start.write_sheet(&mut text)),
+            Timed::ReadSheet => ours.add(span, || start.store.clone(), |store| Ours::read_sheet(&sheet, store)),
+        }
+    }
+    agree(row, &start, &plain);
+    let compared = !matches!(row.timed, Timed::WriteSheet | Timed::ReadSheet);
+    let (n, k, entries) = (row.sum.n, row.sum.k, entries(&row.sum));
+    let theirs = compared.then(|| theirs.time());
+    Measured { name: row.name, n, k, entries, capacity, ours: ours.time(), theirs, bytes }
+}
+
+/// Both sides accept the call and hold as many entries after it.
+fn agree(row: &Row, start: &Ours, plain: &oracle::Plain) {
+    if let Timed::Call(call) = row.timed {
+        let (mut o, mut p) = (start.clone(), plain.clone());
+        assert_eq!(o.call(call).number, 0, "{} is refused", row.name);
+        p.call(call);
+        assert_eq!(o.header.count, p.entries(), "{}", row.name);
+    }
+}
+
+// ---- what is printed
+
+fn print(m: &Measured) {
+    let Measured { name, n, k, entries, capacity, ours, .. } = m;
+    let us = |ns: f64| ns / 1000.0;
+    print!("{name:<28} {n:>3} {k:>3} {entries:>4} {capacity:>4} {:>9.2} {:>9.2}", us(ours.least), us(ours.median));
+    match m.theirs {
+        Some(t) => {
+            println!(" {:>9.2} {:>9.2} {:>7.2} {:>7.2}", us(t.least), us(t.median), ours.least / t.least, ours.median / t.median)
+        }
+        None => println!("   {:.0} MB/s, {} bytes", m.bytes as f64 * 1000.0 / ours.least, m.bytes),
+    }
+}
+
+/// How the least time grows from one column to the next.
+fn growth(all: &[Measured], title: &str, of: impl Fn(&Measured) -> Option<usize>) {
+    println!("\n{title}: least time in microseconds, ours / the Rust's");
+    let mut names: Vec<&str> = all.iter().map(|m| m.name).collect();
+    names.dedup();
+    names.sort_unstable();
+    names.dedup();
+    for name in names {
+        let mut line: Vec<(usize, &Measured)> = all.iter().filter(|m| m.name == name).filter_map(|m| Some((of(m)?, m))).collect();
+        line.sort_by_key(|(at, _)| *at);
+        let cell = |(at, m): &(usize, &Measured)| match m.theirs {
+            Some(t) => format!("{at}: {:.2} / {:.2}", m.ours.least / 1000.0, t.least / 1000.0),
+            None => format!("{at}: {:.2}", m.ours.least / 1000.0),
+        };
+        println!("{name:<28} {}", line.iter().map(cell).collect::<Vec<_>>().join("   "));
+    }
+}
+
+fn main() {
+    let milliseconds = std::env::args().nth(1).map_or(3, |a| a.parse().expect("milliseconds"));
+    let span = Duration::from_millis(milliseconds);
+    println!(
+        "call                           n   K  entr  cap      ours    median      Rust    median   ratio  median   (microseconds; least, median)"
+    );
+    let mut all = Vec::new();
+    for n in [4, 16, 64] {
+        for k in [1, 16] {
+            for count in [16, 64, 200] {
+                for row in rows(n, k, count) {
+                    let enough = needed(&row);
+                    let mut capacities = vec![enough, 256];
+                    capacities.dedup();
+                    for capacity in capacities {
+                        let m = measure(&row, capacity, span);
+                        print(&m);
+                        all.push(m);
+                    }
+                }
+            }
+        }
+    }
+    let just = |m: &&Measured| m.k == 1 && (m.capacity < 256 || m.entries == 256);
+    let just: Vec<Measured> = all.drain(..).filter(|m| just(&m)).collect();
+    growth(&just, "by entries, n 16, K 1", |m| (m.n == 16).then_some(m.entries));
+    growth(&just, "by qubits, 64 entries, K 1", |m| (m.entries == 64).then_some(m.n));
+}
