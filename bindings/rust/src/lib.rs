@@ -1,0 +1,49 @@
+//! Weighted sums of stabilizer tableaux under Pauli and loss noise: a safe interface to `libtableau_sum.a`, an engine that is proved.
+//!
+//! A [`TableauSum`] is a list of entries, each a tableau with a weight. Channels make branches; a branch that equals an entry merges into
+//! it, others are kept if their weight is above the cutoff. A shot planner reads the sampling table, or the sheet, which is text.
+//!
+//! ```
+//! use tableau_sum::{Error, Size, TableauSum};
+//!
+//! let mut sum = TableauSum::fresh(Size { n: 3, k: 1, capacity: 32 }, 1e-6, 1e-3)?;
+//! sum.h(0)?;
+//! sum.cnot(0, 1)?;
+//! sum.cnot(1, 2)?; // three atoms in a GHZ state
+//! let counts = sum.depolarize1(0, 0.03)?;
+//! assert_eq!((counts.stored, sum.len()), (3, 4));
+//!
+//! let (place, total) = sum.table()?[0]; // by falling weight
+//! assert_eq!((place, total), (0, 0.97));
+//! assert_eq!(sum.pick(0.985)?, 2);
+//! assert_eq!(TableauSum::read_sheet(sum.sheet()?)?.len(), 4);
+//! assert_eq!(sum.loss_channel(3, 0.1), Err(Error::BadPlace)); // there is no qubit 3
+//! # Ok::<(), Error>(())
+//! ```
+//!
+//! # What is promised
+//!
+//! Proved of the library: each call gives exactly what document 01 of the project says, for every input; it ends, stays inside the memory
+//! that it is lent, and changes nothing if it is refused; no list of calls leaves stale keys behind that make a branch miss its equal. The
+//! library never panics and never unwinds. It has no state of its own, so a [`TableauSum`] is [`Send`] and [`Sync`] like the vector that it
+//! owns.
+//!
+//! Not proved, but tested: this crate, which lends the library the memory.
+//!
+//! # Building
+//!
+//! The build links `libtableau_sum.a` from the folder that `TABLEAU_SUM_LIB` names, else from `target/staticlib` of the repository, where
+//! `rt staticlib tableau_sum` writes it. It is for x86-64 Linux. Nothing is downloaded.
+
+#![deny(missing_docs)]
+
+mod entry;
+mod error;
+mod ffi;
+mod size;
+mod sum;
+
+pub use entry::{Coefficient, Entry, Row};
+pub use error::Error;
+pub use size::{Size, MAX_CAPACITY, MAX_COEFFICIENTS, MAX_QUBITS};
+pub use sum::{Counts, TableauSum};

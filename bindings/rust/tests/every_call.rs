@@ -1,0 +1,156 @@
+//! The calls of examples/c/every_call.c, made from Rust, give its stored lines: every call, and every number.
+
+use std::fmt::Write;
+use tableau_sum::{Counts, Error, Size, TableauSum, MAX_QUBITS};
+
+const SIZE: Size = Size { n: 2, k: 2, capacity: 64 };
+
+/// A digest of words, as every_call.c makes it.
+fn digest(words: impl IntoIterator<Item = u64>) -> u64 {
+    words.into_iter().fold(0, |digest: u64, word| {
+        let mixed = (digest ^ word).wrapping_mul(0x100_0000_01b3);
+        mixed ^ mixed >> 32
+    })
+}
+fn store_digest(sum: &TableauSum) -> u64 {
+    digest(sum.words().iter().copied())
+}
+
+/// What a line tells besides the call: a field that a call has no use for is 0.
+#[derive(Default)]
+struct Told {
+    counts: Counts,
+    place: usize,
+    length: usize,
+    count: usize,
+    dirty: bool,
+    digest: u64,
+}
+
+struct Page {
+    lines: String,
+}
+
+impl Page {
+    fn tell(&mut self, call: &str, number: u64, t: Told) {
+        let Counts { merged, stored, dropped, compared } = t.counts;
+        let Told { place, length, count, digest, .. } = t;
+        let dirty = t.dirty as u8;
+        writeln!(self.lines, "{call} {number} {merged} {stored} {dropped} {compared} {place} {length} {count} {dirty} {digest:016x}")
+            .unwrap();
+    }
+
+    /// A call that changes the sum.
+    fn changed(&mut self, call: &str, sum: &TableauSum, counts: Counts) {
+        let told = Told { counts, count: sum.len(), dirty: sum.is_dirty(), digest: store_digest(sum), ..Told::default() };
+        self.tell(call, 0, told);
+    }
+
+    /// A call that looks at it, with a digest of what it shows.
+    fn looked(&mut self, call: &str, sum: &TableauSum, place: usize, length: usize, digest: u64) {
+        self.tell(call, 0, Told { place, length, count: sum.len(), dirty: sum.is_dirty(), digest, ..Told::default() });
+    }
+
+    /// A refused call: the sum is as it was.
+    fn refused<T: std::fmt::Debug>(&mut self, call: &str, sum: &TableauSum, outcome: Result<T, Error>) {
+        let told = Told { count: sum.len(), dirty: sum.is_dirty(), digest: store_digest(sum), ..Told::default() };
+        self.tell(call, outcome.unwrap_err().number(), told);
+    }
+
+    /// A refused beginning has a header of zeros; C lends it the store that stands.
+    fn refused_to_begin(&mut self, call: &str, sum: &TableauSum, outcome: Result<TableauSum, Error>) {
+        self.tell(call, outcome.unwrap_err().number(), Told { digest: store_digest(sum), ..Told::default() });
+    }
+}
+
+fn channels(page: &mut Page) -> Result<TableauSum, Error> {
+    let rates = std::array::from_fn(|i| (i + 1) as f64 / 256.0);
+    let mut sum = TableauSum::fresh(SIZE, 0.5, 0.0)?;
+    page.changed("fresh", &sum, Counts::default());
+    let mut make = |call: &str, counts: &dyn Fn(&mut TableauSum) -> Result<Counts, Error>| {
+        let counts = counts(&mut sum).unwrap();
+        page.changed(call, &sum, counts);
+    };
+    let none = |()| Counts::default();
+    make("pauli_error", &|s| s.pauli_error(0, [0.25, 0.125, 0.0625]));
+    make("loss_channel", &|s| s.loss_channel(1, 0.5));
+    make("depolarize1", &|s| s.depolarize1(0, 0.1875));
+    make("h", &|s| s.h(0).map(none));
+    make("s", &|s| s.s(1).map(none));
+    make("cnot", &|s| s.cnot(0, 1).map(none));
+    make("two_qubit_pauli_error", &|s| s.two_qubit_pauli_error(1, 0, rates));
+    make("depolarize2", &|s| s.depolarize2(0, 1, 0.25));
+    make("reset_loss_channel", &|s| s.reset_loss_channel(1));
+    Ok(sum)
+}
+
+fn looks(page: &mut Page, sum: &TableauSum) -> Result<(), Error> {
+    let table = sum.table()?;
+    let words = table.iter().flat_map(|&(place, total)| [place as u64, total.to_bits()]);
+    page.looked("table", sum, 0, 2 * table.len(), digest(words));
+    page.looked("pick", sum, sum.pick(0.75)?, 0, 0);
+    let view = sum.view(3)?;
+    page.looked("view", sum, 0, view.words().len(), digest(view.words().iter().copied()));
+    writeln!(page.lines, "view_word {:016x} {:016x}", sum.view_word(3, 3), sum.view_word(3, view.words().len())).unwrap();
+    assert_eq!(view.phase_loss_key(), sum.view_word(3, 3));
+    Ok(())
+}
+
+/// Writes a float's bits as the field that begins at this byte.
+fn put_field(text: &mut [u8], at: usize, x: f64) {
+    text[at..at + 21].copy_from_slice(format!("{:21}", x.to_bits()).as_bytes());
+}
+
+fn sheet(page: &mut Page, sum: &TableauSum) -> Result<(TableauSum, Vec<u8>), Error> {
+    let mut text = sum.sheet()?.into_bytes();
+    page.looked("write_sheet", sum, 0, text.len(), digest(text.iter().map(|&b| b.into())));
+    put_field(&mut text, 105, 1.0 / 32.0);
+    put_field(&mut text, 127, 2.0);
+    let mut sum = TableauSum::read_sheet(&text)?;
+    page.changed("read_sheet", &sum, Counts::default());
+    sum.normalise()?;
+    page.changed("normalise", &sum, Counts::default());
+    sum.truncate()?;
+    page.changed("truncate", &sum, Counts::default());
+    Ok((sum, text))
+}
+
+fn refusals(page: &mut Page, sum: &mut TableauSum, mut text: Vec<u8>) {
+    page.refused_to_begin("fresh", sum, TableauSum::fresh(Size { n: MAX_QUBITS + 1, ..SIZE }, 0.5, 0.0));
+    page.refused_to_begin("fresh", sum, TableauSum::fresh(SIZE, 0.5, f64::NAN));
+    let outcome = sum.h(SIZE.n);
+    page.refused("h", sum, outcome);
+    let outcome = sum.cnot(1, 1);
+    page.refused("cnot", sum, outcome);
+    page.refused("view", sum, sum.view(sum.len()));
+    let outcome = sum.pauli_error(0, [0.5; 3]);
+    page.refused("pauli_error", sum, outcome);
+    put_field(&mut text, 127, 1025.0);
+    page.refused_to_begin("read_sheet", sum, TableauSum::read_sheet(&text));
+    page.refused_to_begin("read_sheet", sum, TableauSum::read_sheet(&text[..text.len() - 1]));
+    page.refused("write_sheet", sum, sum.write_sheet(&mut text[..126]));
+    page.refused("pick", sum, sum.pick(1.0));
+}
+
+fn last_refusals(page: &mut Page) -> Result<(), Error> {
+    let mut full = TableauSum::fresh(Size { capacity: 1, ..SIZE }, 0.5, 0.0)?;
+    page.changed("fresh", &full, Counts::default());
+    let outcome = full.loss_channel(0, 1.0);
+    page.refused("loss_channel", &full, outcome);
+    let empty = TableauSum::fresh(SIZE, 0.5, 1.0)?;
+    page.changed("fresh", &empty, Counts::default());
+    page.refused("table", &empty, empty.table());
+    page.refused("pick", &empty, empty.pick(0.0));
+    Ok(())
+}
+
+#[test]
+fn gives_what_c_is_given() {
+    let mut page = Page { lines: String::new() };
+    let sum = channels(&mut page).unwrap();
+    looks(&mut page, &sum).unwrap();
+    let (mut sum, text) = sheet(&mut page, &sum).unwrap();
+    refusals(&mut page, &mut sum, text);
+    last_refusals(&mut page).unwrap();
+    assert_eq!(page.lines, include_str!("../../../examples/c/every_call.stdout"));
+}

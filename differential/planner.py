@@ -1,0 +1,63 @@
+"""What examples/c/planner.c prints: a GHZ state under noise, its table, picks, sheet, and a refusal."""
+
+from second import *
+
+N, K, CAPACITY, SHOTS = 3, 1, 32, 10000
+NO_QUBIT = "a qubit is not below n, both qubits of a CNOT are the same, or no entry is at that place"
+
+
+def noise(header, words):
+    steps = [
+        ("depolarize1 0, 3%", depolarizing, 0.03, 0),
+        ("loss_channel 1, 10%", loss, 0.1, 1),
+        ("reset_loss_channel 1", reset_loss_channel, 1),
+        ("loss_channel 2, 2%", loss, 0.02, 2),
+    ]
+    for name, call, *arguments in steps:
+        number, header, counts, words = call(header, words, *arguments)
+        assert number == 0
+        print(f"{name:<24} {counts.merged:2} merged, {counts.stored} stored, {counts.dropped} dropped: {header.count} entries")
+    return header, words
+
+
+def print_table(header, words):
+    print("\nplace    weight     total  lost              shots")
+    number, rows = table(header, words, 2 * CAPACITY)
+    assert number == 0
+    spent = 0
+    for place, bits in zip(rows[::2], rows[1::2]):
+        total, at = float_of(bits), place * entry_length(N, K)
+        shots = int(total * SHOTS + 0.5)
+        print(f"{place:5}  {float_of(words[at]):.6f}  {total:.6f}  {words[at + 1]:016x}  {shots - spent:5}")
+        spent = shots
+
+
+def print_picks(header, words):
+    print()
+    for draw in (0.0, 0.5, 0.96, 0.98, 0.999):
+        number, place = pick(header, words, draw)
+        assert number == 0
+        print(f"draw {draw:.3f} picks entry {place}")
+
+
+def print_sheet(header, words):
+    number, text = write_sheet(header, words, 1 << 20)
+    assert number == 0
+    print(f"\nthe sheet, {len(text)} bytes:\n{text.decode()}", end="")
+    number, copy, _, read = read_sheet(text, words)
+    assert number == 0
+    same = write_sheet(copy, read, 1 << 20) == (0, text)
+    print(f"\nread back: {copy.count} entries, {'dirty' if copy.dirty else 'not dirty'}; its sheet is {'the same' if same else 'ANOTHER'}")
+
+
+def main():
+    _, header, _, words = fresh(N, K, CAPACITY, 1e-6, 1e-3, [0] * (CAPACITY * entry_length(N, K)))
+    for turned, *qubits in ((turned_h, 0), (turned_cnot, 0, 1), (turned_cnot, 1, 2)):
+        _, header, _, words = gate(header, words, turned, *qubits)
+    header, words = noise(header, words)
+    print_table(header, words)
+    print_picks(header, words)
+    print_sheet(header, words)
+    number, _, _, after = loss(header, words, 0.02, 3)
+    print(f"\nloss_channel 3, 2%: refused with {number}, {NO_QUBIT if number == 3 else ''}")
+    print(f"the store is {'as it was' if after == words else 'CHANGED'}")

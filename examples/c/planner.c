@@ -1,0 +1,207 @@
+/*
+ * A shot planner: three atoms in a GHZ state under noise. It prints what each noisy step did, the sampling table with each entry's share
+ * of the shots, the entries that some draws pick, and the sheet; it reads the sheet back, and shows what a refused call looks like.
+ */
+#include <inttypes.h>
+#include <stdio.h>
+#include <stdlib.h>
+#include <string.h>
+
+#include "tableau_sum.h"
+
+#define SHOTS 10000
+
+/* A store, and the header that describes it: the one that the last accepted call gave. */
+struct sum {
+    tableau_sum_header header;
+    uint64_t *store;
+    size_t words;
+};
+
+/* ---- answers */
+
+/* Keeps the header of an accepted call; of a refused one it says which it was and why. */
+static bool accepted(struct sum *s, const char *call, tableau_sum_answer a)
+{
+    if (a.number != TABLEAU_SUM_DONE) {
+        fprintf(stderr, "%s was refused with %" PRIu64 ": %s\n", call, a.number, tableau_sum_meaning(a.number));
+        return false;
+    }
+    s->header = a.header;
+    return true;
+}
+
+/* The same for a channel or a reset, with what became of its branches. */
+static bool branched(struct sum *s, const char *call, tableau_sum_answer a)
+{
+    if (!accepted(s, call, a))
+        return false;
+    printf("%-24s %2zu merged, %zu stored, %zu dropped: %zu entries\n", call, a.counts.merged, a.counts.stored, a.counts.dropped,
+           s->header.count);
+    return true;
+}
+
+/* Zeroed memory, or a message. */
+static void *room(size_t count, size_t each)
+{
+    void *p = count == 0 ? NULL : calloc(count, each);
+    if (p == NULL)
+        fprintf(stderr, "there is no room for %zu elements\n", count);
+    return p;
+}
+
+/* ---- the circuit */
+
+static bool begin(struct sum *s)
+{
+    const tableau_sum_size size = {3, 1, 32};
+    const double threshold = 1e-6, cutoff = 1e-3;
+    s->words = tableau_sum_store_words(size);
+    s->store = room(s->words, sizeof *s->store);
+    return s->store != NULL && accepted(s, "fresh", tableau_sum_fresh(size, threshold, cutoff, s->store, s->words));
+}
+
+static bool ghz(struct sum *s)
+{
+    return accepted(s, "h 0", tableau_sum_h(s->header, s->store, s->words, 0)) &&
+           accepted(s, "cnot 0 1", tableau_sum_cnot(s->header, s->store, s->words, 0, 1)) &&
+           accepted(s, "cnot 1 2", tableau_sum_cnot(s->header, s->store, s->words, 1, 2));
+}
+
+static bool noise(struct sum *s)
+{
+    return branched(s, "depolarize1 0, 3%", tableau_sum_depolarize1(s->header, s->store, s->words, 0, 0.03)) &&
+           branched(s, "loss_channel 1, 10%", tableau_sum_loss_channel(s->header, s->store, s->words, 1, 0.1)) &&
+           branched(s, "reset_loss_channel 1", tableau_sum_reset_loss_channel(s->header, s->store, s->words, 1)) &&
+           branched(s, "loss_channel 2, 2%", tableau_sum_loss_channel(s->header, s->store, s->words, 2, 0.02));
+}
+
+/* ---- the sampling table */
+
+/* Shots up to a running total of weights, so that the shares add up to all of them. */
+static unsigned long shots_to(double total)
+{
+    return (unsigned long)(total * SHOTS + 0.5);
+}
+
+static void print_share(const struct sum *s, size_t place, double before, double total)
+{
+    const uint64_t *entry = s->store + tableau_sum_entry_start(s->header.size, place);
+    printf("%5zu  %.6f  %.6f  %016" PRIx64 "  %5lu\n", place, tableau_sum_float(entry[TABLEAU_SUM_WEIGHT]), total, entry[TABLEAU_SUM_LOSS],
+           shots_to(total) - shots_to(before));
+}
+
+static bool print_table(struct sum *s)
+{
+    const size_t words = 2 * s->header.count;
+    uint64_t *table = room(words, sizeof *table);
+    bool done = table != NULL && accepted(s, "table", tableau_sum_table(s->header, s->store, s->words, table, words));
+    if (done) {
+        double before = 0;
+        printf("\nplace    weight     total  lost              shots\n");
+        for (size_t i = 0; i < words; i += 2) {
+            const double total = tableau_sum_float(table[i + 1]);
+            print_share(s, (size_t)table[i], before, total);
+            before = total;
+        }
+    }
+    free(table);
+    return done;
+}
+
+/* The draws are given here. A planner takes them from its random generator, each at least 0 and below 1. */
+static bool print_picks(struct sum *s)
+{
+    static const double draws[] = {0.0, 0.5, 0.96, 0.98, 0.999};
+    printf("\n");
+    for (size_t i = 0; i < sizeof draws / sizeof draws[0]; i++) {
+        const tableau_sum_answer a = tableau_sum_pick(s->header, s->store, s->words, draws[i]);
+        if (!accepted(s, "pick", a))
+            return false;
+        printf("draw %.3f picks entry %zu\n", draws[i], a.place);
+    }
+    return true;
+}
+
+/* ---- the sheet */
+
+/* The sum's sheet, and in *length its bytes; NULL after a message. The caller frees it. */
+static uint8_t *sheet_of(struct sum *s, size_t *length)
+{
+    const size_t bytes = tableau_sum_sheet_bytes(s->header.size);
+    uint8_t *text = room(bytes, sizeof *text);
+    if (text != NULL) {
+        const tableau_sum_answer a = tableau_sum_write_sheet(s->header, s->store, s->words, text, bytes);
+        if (accepted(s, "write_sheet", a)) {
+            *length = a.length;
+            return text;
+        }
+    }
+    free(text);
+    return NULL;
+}
+
+/* A sum of its own from a sheet. The store's length follows from the first line. */
+static bool read_back(struct sum *s, const uint8_t *text, size_t length)
+{
+    s->words = tableau_sum_store_words(tableau_sum_sheet_size(text, length));
+    s->store = room(s->words, sizeof *s->store);
+    return s->store != NULL && accepted(s, "read_sheet", tableau_sum_read_sheet(text, length, s->store, s->words));
+}
+
+/* What is read back has the same sheet again, and is dirty: its keys are worked out by its next channel or reset. */
+static bool same_again(const uint8_t *text, size_t length)
+{
+    struct sum copy = {0};
+    uint8_t *again = NULL;
+    size_t again_length = 0;
+    bool same = false;
+    if (read_back(&copy, text, length) && (again = sheet_of(&copy, &again_length)) != NULL) {
+        same = again_length == length && memcmp(again, text, length) == 0;
+        printf("\nread back: %zu entries, %s; its sheet is %s\n", copy.header.count, copy.header.dirty ? "dirty" : "not dirty",
+               same ? "the same" : "ANOTHER");
+    }
+    free(again);
+    free(copy.store);
+    return same;
+}
+
+static bool print_sheet(struct sum *s)
+{
+    size_t length = 0;
+    uint8_t *text = sheet_of(s, &length);
+    bool done = text != NULL;
+    if (done) {
+        printf("\nthe sheet, %zu bytes:\n", length);
+        done = fwrite(text, 1, length, stdout) == length && same_again(text, length);
+    }
+    free(text);
+    return done;
+}
+
+/* ---- a refusal */
+
+/* There is no qubit 3. The number says so; header and store are as they were, and the sum goes on. */
+static bool show_refusal(struct sum *s)
+{
+    const size_t bytes = s->words * sizeof *s->store;
+    uint64_t *before = room(s->words, sizeof *before);
+    bool untouched = false;
+    if (before != NULL) {
+        memcpy(before, s->store, bytes);
+        const tableau_sum_answer a = tableau_sum_loss_channel(s->header, s->store, s->words, 3, 0.02);
+        untouched = a.number != TABLEAU_SUM_DONE && a.header.count == s->header.count && memcmp(before, s->store, bytes) == 0;
+        printf("\nloss_channel 3, 2%%: refused with %" PRIu64 ", %s\n", a.number, tableau_sum_meaning(a.number));
+        printf("the store is %s\n", untouched ? "as it was" : "CHANGED");
+    }
+    free(before);
+    return untouched;
+}
+
+int main(void)
+{
+    struct sum s = {0};
+    const bool done = begin(&s) && ghz(&s) && noise(&s) && print_table(&s) && print_picks(&s) && print_sheet(&s) && show_refusal(&s);
+    free(s.store);
+    return done && fflush(stdout) == 0 ? EXIT_SUCCESS : EXIT_FAILURE;
+}

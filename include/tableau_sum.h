@@ -1,0 +1,426 @@
+/*
+ * tableau_sum.h: weighted sums of stabilizer tableaux under Pauli and loss noise.
+ *
+ * For C99 and later and for C++. Link with libtableau_sum.a, which `rt staticlib tableau_sum` writes to target/staticlib, on x86-64
+ * Linux. The library needs memcpy, memmove and memset and nothing else: it has no heap and no state of its own. Calls on the largest size
+ * were measured to take less than 16 KiB of stack.
+ *
+ * HOW A SUM IS KEPT. The caller lends a store of 64-bit words, tableau_sum_store_words(size) of them, and keeps a header that
+ * describes it. Each call takes both and gives an answer: a number, 0 if the call was done, and the header as it is now, which belongs
+ * into the next call. A refused call changes nothing that it was lent.
+ *
+ *     tableau_sum_size size = {3, 1, 32};
+ *     size_t words = tableau_sum_store_words(size);
+ *     uint64_t *store = calloc(words, sizeof *store);
+ *     tableau_sum_answer a = tableau_sum_fresh(size, 1e-6, 1e-3, store, words);
+ *     if (a.number == TABLEAU_SUM_DONE)
+ *         a = tableau_sum_h(a.header, store, words, 0);
+ *     if (a.number != TABLEAU_SUM_DONE)
+ *         puts(tableau_sum_meaning(a.number));
+ *
+ * WHAT THE CALLER OWES. The proofs of the library take these for granted, and no call tests them:
+ *   - No pointer is null, also where the length is 0. Pointers to words and doubles are aligned to 8 bytes.
+ *   - A length counts elements, not bytes. So many elements are there, and they are initialised: use calloc rather than malloc.
+ *   - The slices of one call do not overlap. Until it returns no other thread writes to them, or reads those that the call writes.
+ *   - The flag `dirty` of a header is 0 or 1, as every answer has it.
+ *   - Arithmetic rounds to nearest and keeps subnormal numbers. Programs start so, unless they are linked with gcc's -ffast-math.
+ *
+ * WHAT IS PROMISED, by proof. Whatever the numbers, headers and words are, a call ends, touches the slices only inside their lengths,
+ * and gives exactly what document 01 of the project says. For a sum that was begun by tableau_sum_fresh or tableau_sum_read_sheet, and
+ * whose header and store nothing but these calls has written since, no branch misses an equal entry because of stale keys.
+ *
+ * Calls on different stores may run at the same time in different threads.
+ */
+#ifndef TABLEAU_SUM_H
+#define TABLEAU_SUM_H
+
+#include <stddef.h>
+#include <stdint.h>
+#include <string.h>
+#ifndef __cplusplus
+#include <stdbool.h>
+#endif
+
+#ifdef __cplusplus
+extern "C" {
+#endif
+
+/* Whoever drops an answer has lost the header: compilers that can, warn. */
+#if defined(__GNUC__)
+#define TABLEAU_SUM_CALL __attribute__((warn_unused_result))
+#else
+#define TABLEAU_SUM_CALL
+#endif
+
+/* ---- limits: each from 1 to this */
+
+#define TABLEAU_SUM_MAX_QUBITS 64
+#define TABLEAU_SUM_MAX_COEFFICIENTS 64
+#define TABLEAU_SUM_MAX_CAPACITY 256
+
+/* the rates of tableau_sum_two_qubit_pauli_error */
+#define TABLEAU_SUM_PAIRS 15
+
+/* ---- the numbers a call gives: the lowest that applies, but the reader tests TABLEAU_SUM_BAD_SHEET first */
+
+enum tableau_sum_number {
+    /* The call was done. */
+    TABLEAU_SUM_DONE = 0,
+    /* n, k or capacity is outside its limits, or the store's length is not tableau_sum_store_words of the size. */
+    TABLEAU_SUM_BAD_SIZE = 1,
+    /* The count is above the capacity; or the threshold or the cutoff is NaN, infinite or below 0. */
+    TABLEAU_SUM_BAD_HEADER = 2,
+    /* A qubit is not below n; or both qubits of a CNOT are the same; or the place to be viewed is not below the count. */
+    TABLEAU_SUM_BAD_PLACE = 3,
+    /* A rate is NaN, below 0 or above 1; or the rates, added from the first on, come to more than 1. For depolarising this is asked of
+     * the rate itself and of its parts' total. */
+    TABLEAU_SUM_BAD_RATE = 4,
+    /* A listed entry has a weight that is NaN, below 0 or above 1024, more than k coefficients, a coefficient that is NaN or infinite,
+     * a phase above 3, or an x, z or loss bit at n or higher; or an unused coefficient place or a slot past the count is not 0.
+     * Merging can lift a weight above 1024: every later call on that sum then gives this number. */
+    TABLEAU_SUM_BAD_ENTRY = 5,
+    /* A channel would hold more than `capacity` entries before it truncates. */
+    TABLEAU_SUM_NO_ROOM = 6,
+    /* A sheet's text breaks its columns, digits, line ends or number of lines, or has a field of 2^64 or more. */
+    TABLEAU_SUM_BAD_SHEET = 7,
+    /* The output slice is shorter than needed. */
+    TABLEAU_SUM_SHORT_OUTPUT = 8,
+    /* The weights of a list that is to be normalised, and is not empty, add up to 0; or a table or a pick is asked of an empty list. */
+    TABLEAU_SUM_NO_WEIGHT = 9,
+    /* A draw is NaN, below 0, or 1 or more. */
+    TABLEAU_SUM_BAD_DRAW = 10
+};
+
+/* ---- what the calls take and give */
+
+/* How large a sum can be. */
+typedef struct tableau_sum_size {
+    size_t n;        /* qubits */
+    size_t k;        /* coefficients that an entry has room for */
+    size_t capacity; /* entries that the store has room for */
+} tableau_sum_size;
+
+/* What describes the sum in a store. Take it from the last answer, and pass it on as it is. */
+typedef struct tableau_sum_header {
+    tableau_sum_size size;
+    size_t count;     /* entries listed */
+    double threshold; /* coefficients are as good as equal if the square of their distance is below the square of this */
+    double cutoff;    /* a branch that merges with no entry is kept only if its weight is above this */
+    bool dirty;       /* the stored keys are stale: after a gate or a reading, until the next channel or reset. 0 or 1 */
+} tableau_sum_header;
+
+/* What became of the branches of a channel or a reset. Every other call gives 0 for all four. */
+typedef struct tableau_sum_counts {
+    size_t merged;   /* found an entry that is alike, which gained their weight */
+    size_t stored;   /* became an entry of their own */
+    size_t dropped;  /* were not above the cutoff */
+    size_t compared; /* full comparisons of a branch with an entry */
+} tableau_sum_counts;
+
+/* What every call gives. A field that the call has no use for is 0, and after a refusal all but the number and the header are. */
+typedef struct tableau_sum_answer {
+    uint64_t number;           /* one of enum tableau_sum_number */
+    tableau_sum_header header; /* as it is now. Refused: as it was given; from fresh and read_sheet, zeros */
+    tableau_sum_counts counts;
+    size_t place;  /* pick: the place of the entry that was picked */
+    size_t length; /* table, write_sheet: elements written; view: words of the entry */
+} tableau_sum_answer;
+
+/* The layout that the library was built for. */
+#if defined(__cplusplus) && __cplusplus >= 201103L
+#define TABLEAU_SUM_ASSERT(claim) static_assert(claim, #claim)
+#elif !defined(__cplusplus) && defined(__STDC_VERSION__) && __STDC_VERSION__ >= 201112L
+#define TABLEAU_SUM_ASSERT(claim) _Static_assert(claim, #claim)
+#endif
+#ifdef TABLEAU_SUM_ASSERT
+TABLEAU_SUM_ASSERT(sizeof(size_t) == 8);
+TABLEAU_SUM_ASSERT(sizeof(double) == 8);
+TABLEAU_SUM_ASSERT(sizeof(bool) == 1);
+TABLEAU_SUM_ASSERT(sizeof(tableau_sum_size) == 24);
+TABLEAU_SUM_ASSERT(sizeof(tableau_sum_header) == 56);
+TABLEAU_SUM_ASSERT(sizeof(tableau_sum_counts) == 32);
+TABLEAU_SUM_ASSERT(sizeof(tableau_sum_answer) == 112);
+TABLEAU_SUM_ASSERT(offsetof(tableau_sum_header, dirty) == 48);
+TABLEAU_SUM_ASSERT(offsetof(tableau_sum_answer, header) == 8);
+TABLEAU_SUM_ASSERT(offsetof(tableau_sum_answer, counts) == 64);
+TABLEAU_SUM_ASSERT(offsetof(tableau_sum_answer, length) == 104);
+#undef TABLEAU_SUM_ASSERT
+#endif
+
+/* ---- a sum begins. The store may hold any words; accepted, every word of it is written */
+
+/*
+ * The fresh sum: one entry of weight 1, rows 0 to n - 1 X on qubit i, rows n to 2n - 1 Z, phases 0, one coefficient 1 + 0i at index 0.
+ * It has no entry if 1 is not above the cutoff. The keys are worked out, and the sum is not dirty.
+ * size, threshold, cutoff: those of the sum. store: tableau_sum_store_words(size) words.
+ * Numbers: 1, 2.
+ */
+TABLEAU_SUM_CALL tableau_sum_answer tableau_sum_fresh(tableau_sum_size size, double threshold, double cutoff, uint64_t *store,
+                                                      size_t store_len);
+
+/*
+ * The sum that a sheet says. It is dirty, with keys 0.
+ * text: the whole sheet, byte for byte. store: as many words as the size on its first line asks for (tableau_sum_sheet_size).
+ * Numbers: 7, then 1, 2, 5.
+ */
+TABLEAU_SUM_CALL tableau_sum_answer tableau_sum_read_sheet(const uint8_t *text, size_t text_len, uint64_t *store, size_t store_len);
+
+/* ---- channels: h is the header, store the words that it describes. The answer has the four counts
+ *
+ * Each entry whose qubits are live gives a branch for each rate, of its weight times that rate, and keeps its weight times 1 minus the
+ * total. Then the branches are merged, in order. If any was dropped the sum is normalised; at the end it is truncated.
+ */
+
+/*
+ * X, Y and Z at qubit q with rates x, y and z.
+ * Numbers: 1, 2, 3, 4, 5, 6, 9.
+ */
+TABLEAU_SUM_CALL tableau_sum_answer tableau_sum_pauli_error(tableau_sum_header h, uint64_t *store, size_t store_len, size_t q, double x,
+                                                            double y, double z);
+
+/*
+ * Qubit q is lost with this rate.
+ * Numbers: 1, 2, 3, 4, 5, 6, 9.
+ */
+TABLEAU_SUM_CALL tableau_sum_answer tableau_sum_loss_channel(tableau_sum_header h, uint64_t *store, size_t store_len, size_t q,
+                                                             double rate);
+
+/*
+ * X, Y and Z at qubit q, each with a third of the rate.
+ * Numbers: 1, 2, 3, 4, 5, 6, 9.
+ */
+TABLEAU_SUM_CALL tableau_sum_answer tableau_sum_depolarize1(tableau_sum_header h, uint64_t *store, size_t store_len, size_t q,
+                                                            double rate);
+
+/*
+ * Pairs of Paulis at qubits p and q, which may be the same one.
+ * rates: 15, in the order IX IY IZ XI XX XY XZ YI YX YY YZ ZI ZX ZY ZZ, the first letter at p and the second at q.
+ * Numbers: 1, 2, 3, 4, 5, 6, 9.
+ */
+TABLEAU_SUM_CALL tableau_sum_answer tableau_sum_two_qubit_pauli_error(tableau_sum_header h, uint64_t *store, size_t store_len, size_t p,
+                                                                      size_t q, const double rates[TABLEAU_SUM_PAIRS]);
+
+/*
+ * Each of these pairs with a fifteenth of the rate.
+ * Numbers: 1, 2, 3, 4, 5, 6, 9.
+ */
+TABLEAU_SUM_CALL tableau_sum_answer tableau_sum_depolarize2(tableau_sum_header h, uint64_t *store, size_t store_len, size_t p, size_t q,
+                                                            double rate);
+
+/*
+ * Entries that are lost at qubit q become live, and are merged. An entry that is alike to none and not above the cutoff is dropped;
+ * nothing is truncated or normalised. The answer has the four counts.
+ * Numbers: 1, 2, 3, 5.
+ */
+TABLEAU_SUM_CALL tableau_sum_answer tableau_sum_reset_loss_channel(tableau_sum_header h, uint64_t *store, size_t store_len, size_t q);
+
+/* ---- gates: on the rows of every entry. The sum is dirty afterwards */
+
+/*
+ * H at qubit q.
+ * Numbers: 1, 2, 3, 5.
+ */
+TABLEAU_SUM_CALL tableau_sum_answer tableau_sum_h(tableau_sum_header h, uint64_t *store, size_t store_len, size_t q);
+
+/*
+ * S at qubit q.
+ * Numbers: 1, 2, 3, 5.
+ */
+TABLEAU_SUM_CALL tableau_sum_answer tableau_sum_s(tableau_sum_header h, uint64_t *store, size_t store_len, size_t q);
+
+/*
+ * CNOT from qubit a, which controls, to qubit b.
+ * Numbers: 1, 2, 3 (also if a and b are the same), 5.
+ */
+TABLEAU_SUM_CALL tableau_sum_answer tableau_sum_cnot(tableau_sum_header h, uint64_t *store, size_t store_len, size_t a, size_t b);
+
+/* ---- weights */
+
+/*
+ * Keeps the entries whose weight is above the cutoff and, if any went, normalises.
+ * Numbers: 1, 2, 5.
+ */
+TABLEAU_SUM_CALL tableau_sum_answer tableau_sum_truncate(tableau_sum_header h, uint64_t *store, size_t store_len);
+
+/*
+ * Divides each weight by the total of all, added in list order.
+ * Numbers: 1, 2, 5, 9.
+ */
+TABLEAU_SUM_CALL tableau_sum_answer tableau_sum_normalise(tableau_sum_header h, uint64_t *store, size_t store_len);
+
+/* ---- calls that only look: they write to no store */
+
+/*
+ * The sampling table, by falling weight (of equal weights the earlier entry first): for each entry its place in the list, from 0, and
+ * the bits of the running total of weights up to and with it (tableau_sum_float).
+ * out: 2 words for each entry listed, or more; those past the table stay as they are. The answer's length counts words.
+ * Numbers: 1, 2, 5, 8, 9.
+ */
+TABLEAU_SUM_CALL tableau_sum_answer tableau_sum_table(tableau_sum_header h, const uint64_t *store, size_t store_len, uint64_t *out,
+                                                      size_t out_len);
+
+/*
+ * The answer's place is that of the first entry of the table whose total is above the draw, else of the last.
+ * draw: from 0 to below 1.
+ * Numbers: 1, 2, 5, 9, 10.
+ */
+TABLEAU_SUM_CALL tableau_sum_answer tableau_sum_pick(tableau_sum_header h, const uint64_t *store, size_t store_len, double draw);
+
+/*
+ * The sheet of the sum: ASCII text with no 0 at its end. Keys and flag are not on it.
+ * out: room for tableau_sum_sheet_bytes of the size is always enough; bytes past the text stay as they are. The answer's length counts
+ * bytes.
+ * Numbers: 1, 2, 5, 8.
+ */
+TABLEAU_SUM_CALL tableau_sum_answer tableau_sum_write_sheet(tableau_sum_header h, const uint64_t *store, size_t store_len, uint8_t *out,
+                                                            size_t out_len);
+
+/*
+ * A view of the entry at a place, from 0: the answer's length is that of its stretch, which begins at store[place * length].
+ * Numbers: 1, 2, 3, 5.
+ */
+TABLEAU_SUM_CALL tableau_sum_answer tableau_sum_view(tableau_sum_header h, const uint64_t *store, size_t store_len, size_t place);
+
+/*
+ * Word i of that view. It gives no number: past the view's end, and where the view is refused, the word is 0.
+ */
+TABLEAU_SUM_CALL uint64_t tableau_sum_view_word(tableau_sum_header h, const uint64_t *store, size_t store_len, size_t place, size_t i);
+
+/* ---- the layout of a store. An entry is one stretch of words: a head of 5, then k coefficients and 2n rows of 3 words each */
+
+enum tableau_sum_word {
+    TABLEAU_SUM_WEIGHT = 0,            /* the bits of the weight */
+    TABLEAU_SUM_LOSS = 1,              /* bit q: qubit q is lost */
+    TABLEAU_SUM_WORD_KEY = 2,          /* the key of the rows' x and z */
+    TABLEAU_SUM_PHASE_LOSS_KEY = 3,    /* the key of phases and losses */
+    TABLEAU_SUM_COEFFICIENT_COUNT = 4, /* coefficients in use; the places past them are 0 */
+    TABLEAU_SUM_HEAD_WORDS = 5
+};
+
+/* Words of an entry: 5 + 3k + 6n; 0 if n, k or capacity is outside its limits. */
+static inline size_t tableau_sum_entry_words(tableau_sum_size size)
+{
+    if (size.n < 1 || size.n > TABLEAU_SUM_MAX_QUBITS || size.k < 1 || size.k > TABLEAU_SUM_MAX_COEFFICIENTS || size.capacity < 1 ||
+        size.capacity > TABLEAU_SUM_MAX_CAPACITY)
+        return 0;
+    return TABLEAU_SUM_HEAD_WORDS + 3 * size.k + 6 * size.n;
+}
+
+/* Words of a store: capacity times those of an entry; 0 if n, k or capacity is outside its limits. */
+static inline size_t tableau_sum_store_words(tableau_sum_size size)
+{
+    return size.capacity * tableau_sum_entry_words(size);
+}
+
+/* Where in the store the entry at a place begins. */
+static inline size_t tableau_sum_entry_start(tableau_sum_size size, size_t place)
+{
+    return place * tableau_sum_entry_words(size);
+}
+
+/* Where in an entry coefficient j, below k, begins: its index, and the bits of its real and imaginary part. */
+static inline size_t tableau_sum_coefficient_start(size_t j)
+{
+    return TABLEAU_SUM_HEAD_WORDS + 3 * j;
+}
+
+/* Where in an entry row r, below 2n, begins: x and z, with bit q for qubit q, and the phase, 0 to 3. */
+static inline size_t tableau_sum_row_start(tableau_sum_size size, size_t r)
+{
+    return TABLEAU_SUM_HEAD_WORDS + 3 * size.k + 3 * r;
+}
+
+/* The float of these bits, as a weight, a total or a part of a coefficient is kept. */
+static inline double tableau_sum_float(uint64_t bits)
+{
+    double x;
+    memcpy(&x, &bits, sizeof x);
+    return x;
+}
+
+/* ---- sheets */
+
+/* Columns of a field of a sheet. */
+#define TABLEAU_SUM_COLUMNS 21
+
+/* The most bytes that the sheet of a sum of this size has, with every slot and coefficient place in use; 0 if it is outside its limits. */
+static inline size_t tableau_sum_sheet_bytes(tableau_sum_size size)
+{
+    if (tableau_sum_entry_words(size) == 0)
+        return 0;
+    return (6 * TABLEAU_SUM_COLUMNS + 1) + size.capacity * (1 + size.k + 2 * size.n) * (3 * TABLEAU_SUM_COLUMNS + 1);
+}
+
+/* The number in the field that begins at `field`, or 0 if it is no number below 1000. */
+static inline size_t tableau_sum_small_field(const uint8_t *field)
+{
+    size_t value = 0;
+    size_t i;
+    for (i = 0; i < TABLEAU_SUM_COLUMNS; i++) {
+        if (field[i] >= '0' && field[i] <= '9')
+            value = 10 * value + (size_t)(field[i] - '0');
+        else if (field[i] != ' ' || value != 0)
+            return 0;
+        if (value > 999)
+            return 0;
+    }
+    return value;
+}
+
+/*
+ * The size on the first line of a sheet, so that a store can be had before it is read; zeros if there is none within the limits.
+ * tableau_sum_read_sheet then judges the text, this line included.
+ */
+static inline tableau_sum_size tableau_sum_sheet_size(const uint8_t *text, size_t text_len)
+{
+    tableau_sum_size size = {0, 0, 0};
+    tableau_sum_size named;
+    if (text_len < 3 * TABLEAU_SUM_COLUMNS)
+        return size;
+    named.n = tableau_sum_small_field(text);
+    named.k = tableau_sum_small_field(text + TABLEAU_SUM_COLUMNS);
+    named.capacity = tableau_sum_small_field(text + 2 * TABLEAU_SUM_COLUMNS);
+    if (tableau_sum_entry_words(named) == 0)
+        return size;
+    return named;
+}
+
+/* ---- what a number means, in words */
+
+static inline const char *tableau_sum_meaning(uint64_t number)
+{
+    switch (number) {
+    case TABLEAU_SUM_DONE:
+        return "done";
+    case TABLEAU_SUM_BAD_SIZE:
+        return "n, k or capacity is outside its limits, or the store has another length";
+    case TABLEAU_SUM_BAD_HEADER:
+        return "the count is above the capacity, or the threshold or the cutoff is NaN, infinite or below 0";
+    case TABLEAU_SUM_BAD_PLACE:
+        return "a qubit is not below n, both qubits of a CNOT are the same, or no entry is at that place";
+    case TABLEAU_SUM_BAD_RATE:
+        return "a rate is NaN, below 0 or above 1, or the total of the rates is above 1";
+    case TABLEAU_SUM_BAD_ENTRY:
+        return "an entry has a weight, coefficient, phase or bit outside its limits, or a word that must be 0 is not";
+    case TABLEAU_SUM_NO_ROOM:
+        return "the store has no room for the branches";
+    case TABLEAU_SUM_BAD_SHEET:
+        return "the text is no sheet";
+    case TABLEAU_SUM_SHORT_OUTPUT:
+        return "the output is too short";
+    case TABLEAU_SUM_NO_WEIGHT:
+        return "the weights add up to 0, or there is no entry";
+    case TABLEAU_SUM_BAD_DRAW:
+        return "the draw is NaN, below 0, or 1 or more";
+    default:
+        return "no number of this library";
+    }
+}
+
+#undef TABLEAU_SUM_CALL
+
+#ifdef __cplusplus
+}
+#endif
+
+#endif
