@@ -1,0 +1,6 @@
+pub mod Exact
+pub mod Runs
+pub mod Ends
+pub mod Parts
+pub mod Answers
+pub mod Examples

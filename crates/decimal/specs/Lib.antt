@@ -1,0 +1,4 @@
+pub mod Digits
+pub mod Wholes
+pub mod Decimals
+pub mod Bounds
