@@ -16,6 +16,9 @@ ghost use Rattle.model.specs.Numbers.{rates, ratesSound};
 ghost use Rattle.model.specs.Calls as Calls;
 ghost use Rattle.model.specs.Calls.{held, gave, step};
 ghost use Rattle.arms.specs.Arms.{Stands};
+ghost use Rattle.noise.specs.Finish.{ranBy};
+ghost use Rattle.reset.specs.Return.{resetBy};
+ghost use Rattle.channels.specs.Tests.{tested, MayRun, MayReset};
 
 // ---- channels
 
@@ -30,27 +33,40 @@ fn rates_refused(arms: Arms, named: bool) -> bool
     true
 }
 
-// The call of any noise that has these branches; `named`: the rates that it names are sound.
-fn call(h: Header, store: &mut [u64], arms: Arms, named: bool) -> Answer
+// Number 1 to 5 of the call of any noise that has these branches, or 0 if none applies; `named`: the rates that it names are sound.
+pub fn noise_number(h: Header, store: &[u64], arms: Arms, named: bool) -> u64
     requires { ⌜ arms .count ≤ 15 ⌝ }
-    ensures { λ r. ⌜ ((c : Noise) → Stands arms c → named ≡ every (upTo (float oneBits)) (rates c) → gave r (now (store .exit)) ≡ step (Calls.noise c) (held h (now (store .entry)))) ⌝ }
+    ensures { λ r. ⌜ (r ≡ 0 → MayRun (held h (now (store .entry))) arms) ⌝ }
+    ensures { λ r. ⌜ ((c : Noise) → Stands arms c → named ≡ every (upTo (float oneBits)) (rates c) → step (Calls.noise c) (held h (now (store .entry))) ≡ tested (held h (now (store .entry))) r (ranBy c (held h (now (store .entry))))) ⌝ }
 {
     let size = h.size;
     let shape = arms.shape;
     let number = checks::shape_number(h, store);
     if number != 0 {
-        return checks::plain_answer(h, number);
+        return number;
     }
     if arms::outside(size.n, shape) {
-        return checks::plain_answer(h, 3);
+        return 3;
     }
     if rates_refused(arms, named) {
-        return checks::plain_answer(h, 4);
+        return 4;
     }
     if checks::words_sound(h, store) {
-        return noise::run(h, store, arms);
+        return 0;
     }
-    checks::plain_answer(h, 5)
+    5
+}
+
+// The call of any noise that has these branches.
+fn call(h: Header, store: &mut [u64], arms: Arms, named: bool) -> Answer
+    requires { ⌜ arms .count ≤ 15 ⌝ }
+    ensures { λ r. ⌜ ((c : Noise) → Stands arms c → named ≡ every (upTo (float oneBits)) (rates c) → gave r (now (store .exit)) ≡ step (Calls.noise c) (held h (now (store .entry)))) ⌝ }
+{
+    let number = noise_number(h, store, arms, named);
+    if number != 0 {
+        return checks::plain_answer(h, number);
+    }
+    noise::run(h, store, arms)
 }
 
 // A channel on one qubit (`pauli_error`, `loss_channel`, `depolarize1`). 1 to 6, 9.
@@ -85,20 +101,32 @@ pub fn depolarize2(h: Header, store: &mut [u64], rate: f64, p: usize, q: usize) 
 
 // ---- reset
 
-// Entries lost at q leave, become live, and are merged in that order. 1, 2, 3, 5.
-pub fn reset_loss_channel(h: Header, store: &mut [u64], q: usize) -> Answer
-    ensures { λ r. ⌜ gave r (now (store .exit)) ≡ step (Calls.reset q) (held h (now (store .entry))) ⌝ }
+// Number 1, 2, 3 or 5 of the reset at q, or 0 if none applies.
+pub fn reset_number(h: Header, store: &[u64], q: usize) -> u64
+    ensures { λ r. ⌜ (r ≡ 0 → MayReset (held h (now (store .entry))) q) ⌝ }
+    ensures { λ r. ⌜ step (Calls.reset q) (held h (now (store .entry))) ≡ tested (held h (now (store .entry))) r (resetBy q (held h (now (store .entry)))) ⌝ }
 {
     let size = h.size;
     let number = checks::shape_number(h, store);
     if number != 0 {
-        return checks::plain_answer(h, number);
+        return number;
     }
     if size.n <= q {
-        return checks::plain_answer(h, 3);
+        return 3;
     }
     if checks::words_sound(h, store) {
-        return reset::run(h, store, q);
+        return 0;
     }
-    checks::plain_answer(h, 5)
+    5
+}
+
+// Entries lost at q leave, become live, and are merged in that order. 1, 2, 3, 5.
+pub fn reset_loss_channel(h: Header, store: &mut [u64], q: usize) -> Answer
+    ensures { λ r. ⌜ gave r (now (store .exit)) ≡ step (Calls.reset q) (held h (now (store .entry))) ⌝ }
+{
+    let number = reset_number(h, store, q);
+    if number != 0 {
+        return checks::plain_answer(h, number);
+    }
+    reset::run(h, store, q)
 }

@@ -41,7 +41,7 @@ module _ (s : Size) (p : Progress) (w : List ℕ) where
     Ends number count w' = Finished s cutoff p w (record { number = number; count = count }) w'
 
     -- there is room, so the list is normalised if anything was dropped, and truncated
-    with-room : {r : Bool} {w' : List ℕ} → Renormalised s p w r w'
+    pub with-room : {r : Bool} {w' : List ℕ} → Renormalised s p w r w'
         → finished keyedWeighed (s .capacity) cutoff (p .dropped) (listed s (p .count) w) ≡ andThen (truncated keyedWeighed cutoff) (cond r (done (listed s (p .count) w')) (refused 9))
     unfolding finished
     with-room n =

@@ -80,10 +80,10 @@ module _ (x : Lent) (r : Arms) (c : Noise) (h : Stands r c) (p : Progress) (w₃
   module _ (t : Spread (hd .size) (hd .threshold) (hd .cutoff) r ds p w₃) where
     -- with room, the channel's tally is what p and the store say
     module _ (o : p .full ≡ false) where
-      same-tally : noiseTally (engine (hd .size) (hd .threshold)) (hd .cutoff) c ds ≡ tallyOf (hd .size) p w₃
+      pub same-tally : noiseTally (engine (hd .size) (hd .threshold)) (hd .cutoff) c ds ≡ tallyOf (hd .size) p w₃
       same-tally = sym (t .tally o ∙ tally-is (hd .size) (hd .threshold) (hd .cutoff) r c h ds)
 
-      ends-as : (n : ℕ) (es : List Keyed) → finished keyedWeighed (hd .size .capacity) (hd .cutoff) (p .dropped) (listed (hd .size) (p .count) w₃) ≡ ending n es
+      pub ends-as : (n : ℕ) (es : List Keyed) → finished keyedWeighed (hd .size .capacity) (hd .cutoff) (p .dropped) (listed (hd .size) (p .count) w₃) ≡ ending n es
           → act engine (noise c) (rebuilt branching (hd .dirty) (sumOf x)) ≡ mapResult changedTo (mapResult (withEntries (engine (hd .size) (hd .threshold)) (tallyOf (hd .size) p w₃)) (ending n es))
       unfolding act channelled rebuilt
       ends-as n es e =

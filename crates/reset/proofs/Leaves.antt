@@ -68,7 +68,7 @@ module _ (x : Lent) (q : ℕ) where
         (ap (drop stay) (t .entries) ∙ drop-at (leaving q es .stay) (leaving q es .branches) stay (t .many) ∙ ap (λ (l : List Keyed). leaving q l .branches) e)
 
     module _ (p : Progress) (v : List ℕ) (m : Merged size (hd .threshold) (hd .cutoff) (take stay now) (map (live size q) (drop stay now)) p v) where
-      tally-is : resetTally (engine size (hd .threshold)) (hd .cutoff) q readied ≡ tallyOf size p v
+      pub tally-is : resetTally (engine size (hd .threshold)) (hd .cutoff) q readied ≡ tallyOf size p v
       unfolding resetTally mergedSplit
       tally-is = sym (m .tally ∙ ap₂ merges branches-are stay-is)
 
