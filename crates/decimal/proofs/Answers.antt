@@ -1,39 +1,57 @@
 -- The answer for a number's parts: by cases, and that numbers above 2^64 - 1 need not be known. Assumes nothing.
 use mathlib.Core.Path.{_≡_, refl, sym, ap, _∙_}
-use mathlib.Core.Bool.{Bool, true, false, cond, _&&_}
+use mathlib.Core.Bool.{Bool, true, false, cond}
 use mathlib.Core.List.{List}
+use mathlib.Core.Logic.{inl, inr}
 use Prim.Native.Nat.{ℕ, _+_, _*_, _-_, _^_, _≤_, _<_}
+use native.Mathlib.Nat.{mul-one, zero-mul, eq-zero-or-pos}
 use native.Mathlib.Omega.{arith}
-use lib.Dec.{eqb, leb, ltb}
-use lib.Ieee.{Float, binary64, round}
-use borrow.Author.Tests.{eq-eqb, ne-eqb, lt-ltb, le-ltb, le-leb, lt-leb, ltb-true, ltb-false}
+use lib.Dec.{eqb, ltb}
+use lib.Ieee.{Float, binary64, round, ofBits}
+use lib.Ieee.Scale.{finite}
+use Rattle.nearest.proofs.Far.{zero-rounded, too-far-up, too-far-down}
+use borrow.Author.Tests.{eq-eqb, ne-eqb, lt-ltb, le-ltb, ltb-true, ltb-false}
 use Rattle.decimal.specs.Digits.{byteAt}
-use Rattle.decimal.specs.Decimals.{minus, signEnd, significandAt, exponentAt, up, down, signed, valueOf, refused, scaled, answerOf, decimalAt}
+use Rattle.decimal.specs.Decimals.{minus, signEnd, significandAt, exponentAt, up, down, signed, refused, answerFor, scaled, answerOf, decimalAt}
 use Rattle.decimal.specs.Bounds.{largest, capped, cappedSignificand, cappedExponent}
 use Rattle.decimal.specs.declared.Significand.{Significand}
 use Rattle.decimal.specs.declared.Exponent.{Exponent}
 use Rattle.decimal.specs.declared.answer.Decimal.{Decimal}
 use Rattle.decimal.proofs.Runs.{capped-small, capped-large}
 
--- ---- a power of ten
+-- ---- a size that is rounded
+
+module _ (negative : Bool) (size : Float) (end : ℕ) where
+  pub is-finite : (v : Float) → finite size ≡ true → v ≡ signed negative size → record { status = 0; value = v; end = end } ≡ answerFor negative size end
+  unfolding answerFor
+  is-finite v f e = rw (f, e)
+
+  pub is-infinite : finite size ≡ false → refused 3 end ≡ answerFor negative size end
+  unfolding answerFor
+  is-infinite f = rw f
+
+-- ---- beyond the f64s
 
 module _ (negative : Bool) (m end : ℕ) where
-  pub above-range : (u d : ℕ) → 22 < u → refused 3 end ≡ scaled negative m u d end
+  -- divided by one large power of ten or by another, m is 0
+  pub vanishes : m < 10 ^ 15 → (d e : ℕ) → 341 ≤ d → 341 ≤ e → scaled negative m 0 d end ≡ scaled negative m 0 e end
   unfolding scaled
-  above-range u d h = rw (lt-leb u 22 h)
+  vanishes h d e p q =
+      ap (λ (v : Float). answerFor negative v end)
+      (rw (mul-one m) (sym (too-far-down m d h p) ∙ too-far-down m e h q))
 
-  pub below-range : (u d : ℕ) → 22 < d → refused 3 end ≡ scaled negative m u d end
+  -- multiplied by one or by the other, it is 0 if it was, and else infinite
+  pub bursts : (u v : ℕ) → 309 ≤ u → 309 ≤ v → scaled negative m u 0 end ≡ scaled negative m v 0 end
   unfolding scaled
-  below-range u d h = go (leb u 22)
+  bursts u v p q =
+      ap (λ (w : Float). answerFor negative w end)
+      (elim (eq-zero-or-pos m) [
+        | inl z ↦ sym (nothing u z) ∙ nothing v z
+        | inr h ↦ too-far-up m u h p ∙ sym (too-far-up m v h q)
+      ])
     where
-      go : (t : Bool) → refused 3 end ≡ cond (t && leb d 22) (record { status = 0; value = valueOf negative m u d; end = end }) (refused 3 end)
-      go true = rw (lt-leb d 22 h)
-      go false = refl
-
-  pub in-range : (u d : ℕ) (v x : Float) → u ≤ 22 → d ≤ 22 → v ≡ signed negative x → x ≡ round binary64 false (m * 10 ^ u) (10 ^ d)
-      → record { status = 0; value = v; end = end } ≡ scaled negative m u d end
-  unfolding scaled valueOf
-  in-range u d v x p q e k = rw (le-leb u 22 p, le-leb d 22 q, e, k)
+      nothing : (u : ℕ) → m ≡ 0 → ofBits binary64 0 ≡ round binary64 false (m * 10 ^ u) 1
+      nothing u z = zero-rounded (m * 10 ^ u) 1 (ap (λ (k : ℕ). k * 10 ^ u) z ∙ zero-mul (10 ^ u)) (omega arith)
 
 -- ---- the cases of an answer
 
@@ -43,9 +61,9 @@ module _ (negative : Bool) (m f : ℕ) (x : Exponent) where
   too-many h = rw (le-ltb m (10 ^ 15) h)
 
   module _ (h : m < 10 ^ 15) where
-    pub far-below : x .negative ≡ true → 22 < x .size → refused 3 (x .end) ≡ answerOf negative m f x
+    pub far-below : x .negative ≡ true → 400 ≤ x .size → scaled negative m 0 400 (x .end) ≡ answerOf negative m f x
     unfolding answerOf up down
-    far-below n g = rw (lt-ltb m (10 ^ 15) h, n) (below-range negative m (x .end) 0 (x .size + f) (omega arith))
+    far-below n g = rw (lt-ltb m (10 ^ 15) h, n) (vanishes negative m (x .end) h 400 (x .size + f) (omega arith) (omega arith))
 
     pub lowered : x .negative ≡ true → scaled negative m 0 (x .size + f) (x .end) ≡ answerOf negative m f x
     unfolding answerOf up down
@@ -65,14 +83,18 @@ module _ (negative : Bool) (m f : ℕ) (x : Exponent) where
 
 -- ---- numbers that are capped
 
-module _ (negative : Bool) (m f end : ℕ) (fits : f < 2 ^ 63) where
+module _ (negative : Bool) (m f end : ℕ) (fits : f < 2 ^ 63) (h : m < 10 ^ 15) where
   abbrev of : Bool → ℕ → Decimal
   of n s = scaled negative m (up n s f) (down n s f) end
 
-  out : (n : Bool) (s : ℕ) → largest ≤ s → refused 3 end ≡ of n s
+  -- one large exponent is as another
+  far : (n : Bool) (s t : ℕ) → largest ≤ s → largest ≤ t → of n s ≡ of n t
   unfolding up down
-  out true s h = below-range negative m end 0 (s + f) (omega arith)
-  out false s h = above-range negative m end (s - f) (f - s) (omega arith)
+  far true s t p q = vanishes negative m end h (s + f) (t + f) (omega arith) (omega arith)
+  far false s t p q =
+      let x : f - s ≡ 0 = omega arith in
+      let y : f - t ≡ 0 = omega arith in
+      rw (x, y) (bursts negative m end (s - f) (t - f) (omega arith) (omega arith))
 
   capped-size : (n : Bool) (s : ℕ) → of n (capped s) ≡ of n s
   capped-size n s = go (ltb largest s) refl
@@ -80,13 +102,19 @@ module _ (negative : Bool) (m f end : ℕ) (fits : f < 2 ^ 63) where
       go : (t : Bool) → ltb largest s ≡ t → of n (capped s) ≡ of n s
       go true e =
           let l : largest < s = ltb-true largest s e in
-          sym (out n (capped s) (omega (arith, capped-large s (omega arith)))) ∙ out n s (omega arith)
+          far n (capped s) s (omega (arith, capped-large s (omega arith))) (omega arith)
       go false e = ap (of n) (capped-small s (ltb-false largest s e))
 
 module _ (negative : Bool) (m f : ℕ) (x : Exponent) where
   capped-exponent : f < 2 ^ 63 → answerOf negative m f (cappedExponent x) ≡ answerOf negative m f x
   unfolding answerOf cappedExponent
-  capped-exponent h = ap (λ (d : Decimal). cond (ltb m (10 ^ 15)) d (refused 2 (x .end))) (capped-size negative m f (x .end) h (x .negative) (x .size))
+  capped-exponent h = go (ltb m (10 ^ 15)) refl
+    where
+      go : (t : Bool) → ltb m (10 ^ 15) ≡ t → answerOf negative m f (cappedExponent x) ≡ answerOf negative m f x
+      go true e = ap (λ (d : Decimal). cond (ltb m (10 ^ 15)) d (refused 2 (x .end))) (capped-size negative m f (x .end) h (ltb-true m (10 ^ 15) e) (x .negative) (x .size))
+      go false e =
+          let l : 10 ^ 15 ≤ m = ltb-false m (10 ^ 15) e in
+          sym (too-many negative m f (cappedExponent x) l) ∙ too-many negative m f x l
 
   capped-number : answerOf negative (capped m) f x ≡ answerOf negative m f x
   capped-number = go (ltb largest m) refl

@@ -2,14 +2,16 @@
 use mathlib.Core.Path.{_≡_, refl, sym, ap, _∙_, subst}
 use mathlib.Core.Bool.{Bool, true, false, true≢false, cond, not, _&&_}
 use mathlib.Core.List.{List, [], _∷_}
-use Prim.Native.Nat.{ℕ, _+_, _^_, _≤_, _<_}
+use Prim.Native.Nat.{ℕ, _+_, _*_, _^_, _≤_, _<_}
 use native.Mathlib.Nat.{lt-of-not-le}
 use native.Mathlib.Omega.{arith}
-use lib.Dec.{eqb, ltb, leb}
+use lib.Dec.{eqb, ltb}
+use lib.Ieee.{binary64, round}
+use lib.Ieee.Scale.{finite}
 use lib.ListN.{length, drop, length-drop, List·getD-eq-default}
 use Rattle.decimal.specs.Digits.{byteAt, isDigit, digits, digitsAt, digitsEnd, number}
 use Rattle.decimal.specs.Wholes.{wholeAt}
-use Rattle.decimal.specs.Decimals.{minus, point, isSign, isExponent, signEnd, significandAt, exponentAt, up, down, scaled, answerOf, decimalAt}
+use Rattle.decimal.specs.Decimals.{minus, point, isSign, isExponent, signEnd, significandAt, exponentAt, up, down, answerFor, scaled, answerOf, decimalAt}
 use Rattle.decimal.specs.Bounds.{Within}
 use Rattle.decimal.specs.declared.Significand.{Significand}
 use Rattle.decimal.specs.declared.Exponent.{Exponent}
@@ -87,10 +89,16 @@ module _ (text : List ℕ) where
       (λ e. here i n)
 
   answer-end : (negative : Bool) (m f : ℕ) (x : Exponent) → answerOf negative m f x .end ≡ x .end
-  unfolding answerOf scaled
+  unfolding answerOf scaled answerFor
   answer-end negative m f x =
       by-test (λ (d : Decimal). d .end ≡ x .end) (ltb m (10 ^ 15)) _ _
-      (λ e. by-test (λ (d : Decimal). d .end ≡ x .end) (leb (up (x .negative) (x .size) f) 22 && leb (down (x .negative) (x .size) f) 22) _ _ (λ k. refl) (λ k. refl))
+      (λ e.
+      by-test (λ (d : Decimal). d .end ≡ x .end)
+      (finite (round binary64 false (m * 10 ^ up (x .negative) (x .size) f) (10 ^ down (x .negative) (x .size) f)))
+      _
+      _
+      (λ k. refl)
+      (λ k. refl))
       (λ e. refl)
 
   pub decimal-within : (from : ℕ) → Within from n (decimalAt text from .end)

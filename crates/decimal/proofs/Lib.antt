@@ -1,4 +1,3 @@
-pub mod Exact
 pub mod Runs
 pub mod Ends
 pub mod Parts

@@ -3,9 +3,10 @@
 use Prim.Native.Nat.{ℕ, _+_, _*_, _-_, _^_}
 use mathlib.Core.Bool.{Bool, false, cond, not, _&&_, _||_}
 use mathlib.Core.List.{List, [], _++_}
-use lib.Dec.{eqb, leb, ltb}
+use lib.Dec.{eqb, ltb}
 use lib.ListN.{length}
 use lib.Ieee.{Float, binary64, ofBits, round, neg}
+use lib.Ieee.Scale.{finite}
 use Rattle.decimal.specs.Digits.{byteAt, digitsAt, digitsEnd, number}
 use Rattle.decimal.specs.declared.Significand.{Significand}
 use Rattle.decimal.specs.declared.Exponent.{Exponent}
@@ -66,22 +67,19 @@ down negative x f = cond negative (x + f) (f - x)
 unfoldable pub signed : Bool → Float → Float
 signed negative x = cond negative (neg x) x
 
--- the f64 nearest to m × 10^up / 10^down, with the sign applied
-unfoldable pub valueOf : Bool → ℕ → ℕ → ℕ → Float
-valueOf negative m up down = signed negative (round binary64 false (m * 10 ^ up) (10 ^ down))
-
 -- ---- the answer
 
 -- no number, or one that is not taken
 abbrev pub refused : ℕ → ℕ → Decimal
 refused status end = record { status = status; value = ofBits binary64 0; end = end }
 
--- 3: the power of ten is below 10^-22 or above 10^22
+-- 3: its size is infinite, rounded
+unfoldable pub answerFor : Bool → Float → ℕ → Decimal
+answerFor negative size end = cond (finite size) (record { status = 0; value = signed negative size; end = end }) (refused 3 end)
+
+-- the f64 nearest to m × 10^up / 10^down, with the sign applied
 unfoldable pub scaled : Bool → ℕ → ℕ → ℕ → ℕ → Decimal
-scaled negative m up down end =
-    cond (leb up 22 && leb down 22)
-    (record { status = 0; value = valueOf negative m up down; end = end })
-    (refused 3 end)
+scaled negative m up down end = answerFor negative (round binary64 false (m * 10 ^ up) (10 ^ down)) end
 
 -- 2: the digits write 10^15 or more
 unfoldable pub answerOf : Bool → ℕ → ℕ → Exponent → Decimal

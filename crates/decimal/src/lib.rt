@@ -5,12 +5,12 @@ pub use answer::Decimal;
 pub use answer::Whole;
 ghost use mathlib.Core.Path.{_≡_};
 ghost use mathlib.Core.Bool.{false};
-ghost use Prim.Native.Nat.{_^_, _<_, _≤_, _*_};
+ghost use Prim.Native.Nat.{_^_, _<_};
 ghost use lib.ListN.{length};
-ghost use lib.Ieee.{binary64, round};
-ghost use lib.Ieee.Exact.{HasValue};
+ghost use lib.Ieee.{inf, lt};
+ghost use lib.Ieee.Scale.{finite};
 ghost use Rattle.decimal.specs.Digits.{byteAt};
-ghost use Rattle.decimal.specs.Decimals.{isSign, signEnd, isExponent, significandAt, exponentAt, signed, refused, scaled, answerOf, decimalAt};
+ghost use Rattle.decimal.specs.Decimals.{isSign, signEnd, isExponent, significandAt, exponentAt, signed, refused, answerFor, scaled, answerOf, decimalAt};
 ghost use Rattle.decimal.specs.Wholes.{wholeAt};
 ghost use Rattle.decimal.specs.Bounds.{runAt, cappedSignificand, cappedExponent, Within};
 
@@ -166,57 +166,6 @@ fn exponent_at(text: &[u8], at: usize) -> Exponent
 
 // ---- the value
 
-// 10^0 to 10^22: beyond that, no power of ten is an f64.
-const POWERS: [f64; 23] = [
-    1e0,
-    1e1,
-    1e2,
-    1e3,
-    1e4,
-    1e5,
-    1e6,
-    1e7,
-    1e8,
-    1e9,
-    1e10,
-    1e11,
-    1e12,
-    1e13,
-    1e14,
-    1e15,
-    1e16,
-    1e17,
-    1e18,
-    1e19,
-    1e20,
-    1e21,
-    1e22,
-];
-
-// 10^k, exact.
-fn power(k: usize) -> f64
-    requires { ⌜ k ≤ 22 ⌝ }
-    ensures { λ r. ⌜ HasValue r false (10 ^ k) 1 ⌝ }
-{
-    POWERS[k]
-}
-
-// m × 10^k: two floats that are exact, multiplied.
-fn times(m: u64, k: usize) -> f64
-    requires { ⌜ (m < 10 ^ 15) × (k ≤ 22) ⌝ }
-    ensures { λ r. ⌜ r ≡ round binary64 false (m * 10 ^ k) 1 ⌝ }
-{
-    m as f64 * power(k)
-}
-
-// m / 10^k: two floats that are exact, divided.
-fn over(m: u64, k: usize) -> f64
-    requires { ⌜ (m < 10 ^ 15) × (k ≤ 22) ⌝ }
-    ensures { λ r. ⌜ r ≡ round binary64 false m (10 ^ k) ⌝ }
-{
-    m as f64 / power(k)
-}
-
 fn with_sign(negative: bool, x: f64) -> f64
     ensures { λ r. ⌜ r ≡ signed negative x ⌝ }
 {
@@ -238,19 +187,27 @@ fn refusal(status: u64, end: usize) -> Decimal
     }
 }
 
+// The answer for a number whose size is rounded: refused if that is infinite.
+fn answer_for(negative: bool, size: f64, end: usize) -> Decimal
+    requires { ⌜ lt size (inf false) ≡ finite size ⌝ }
+    ensures { λ r. ⌜ r ≡ answerFor negative size end ⌝ }
+{
+    if size < 1.0 / 0.0 {
+        return Decimal {
+            status: 0,
+            value: with_sign(negative, size),
+            end,
+        };
+    }
+    refusal(3, end)
+}
+
 // ±m × 10^up.
 fn multiplied(negative: bool, m: u64, up: u64, end: usize) -> Decimal
     requires { ⌜ m < 10 ^ 15 ⌝ }
     ensures { λ r. ⌜ r ≡ scaled negative m up 0 end ⌝ }
 {
-    if 22 < up {
-        return refusal(3, end);
-    }
-    Decimal {
-        status: 0,
-        value: with_sign(negative, times(m, up as usize)),
-        end,
-    }
+    answer_for(negative, nearest::multiplied(m, up), end)
 }
 
 // ±m / 10^down.
@@ -258,17 +215,10 @@ fn divided(negative: bool, m: u64, down: u64, end: usize) -> Decimal
     requires { ⌜ m < 10 ^ 15 ⌝ }
     ensures { λ r. ⌜ r ≡ scaled negative m 0 down end ⌝ }
 {
-    if 22 < down {
-        return refusal(3, end);
-    }
-    Decimal {
-        status: 0,
-        value: with_sign(negative, over(m, down as usize)),
-        end,
-    }
+    answer_for(negative, nearest::divided(m, down), end)
 }
 
-// ±m × 10^(x - f).
+// ±m × 10^(x - f). Divided by 10^400 or more, m is 0.
 fn answer_of(negative: bool, m: u64, f: u64, x: Exponent) -> Decimal
     requires { ⌜ f < 2 ^ 63 ⌝ }
     ensures { λ r. ⌜ r ≡ answerOf negative m f x ⌝ }
@@ -277,8 +227,8 @@ fn answer_of(negative: bool, m: u64, f: u64, x: Exponent) -> Decimal
         return refusal(2, x.end);
     }
     if x.negative {
-        if 22 < x.size {
-            return refusal(3, x.end);
+        if 400 <= x.size {
+            return divided(negative, m, 400, x.end);
         }
         return divided(negative, m, x.size + f, x.end);
     }

@@ -1,0 +1,3 @@
+mod Spelled
+mod Steps
+mod Uncalled

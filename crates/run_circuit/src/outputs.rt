@@ -1,0 +1,133 @@
+// What is printed at the end of a run: the sheet or the table, and the summary.
+use crate::tell;
+use libc::STDERR_FILENO;
+use libc::STDOUT_FILENO;
+use model::Header;
+use second_pass::Run;
+
+pub fn tell_refused(what: &[u8], number: u64, capacity: usize) {
+    rows::say(b"run_circuit: ");
+    rows::say(what);
+    rows::say(b" was refused with ");
+    rows::say_number(number);
+    rows::say(b": ");
+    tell::tell_number(number, capacity);
+    rows::say(b"\n");
+}
+
+fn is_written(written: bool) -> bool {
+    if !written {
+        os::fail(b"run_circuit: standard output");
+    }
+    written
+}
+
+// ---- the sheet
+
+// Room for the largest: a line of 6 fields, and for each of 256 entries lines of 3 fields for itself, its coefficient and 128 rows. A field
+// has 21 columns, and a line its end: 127 + 256 * 130 * 64.
+fn sheet_room() -> [u8; 2_130_047] {
+    [0u8; 2_130_047]
+}
+
+// Whether it was written.
+pub fn write_sheet(h: Header, store: &[u64]) -> bool {
+    let mut out = sheet_room();
+    let size = h.size;
+    let a = sheet::write_sheet(h, store, &mut out);
+    if a.number != 0 {
+        tell_refused(b"the sheet", a.number, size.capacity);
+        return false;
+    }
+    let end = a.length;
+    if end <= 2_130_047 {
+        return is_written(io::write_all(STDOUT_FILENO, &out[0..end]));
+    }
+    false
+}
+
+// ---- the table
+
+fn word_at(words: &[u64], at: usize) -> u64 {
+    if at < words.len() {
+        return words[at];
+    }
+    0
+}
+
+// The weight bits of the entry at a place.
+fn weight_at(store: &[u64], h: Header, place: u64) -> u64 {
+    let size = h.size;
+    word_at(store, second_pass::words(size.n, place as usize))
+}
+
+fn write_entry(place: u64, weight: u64, total: u64) -> bool {
+    let mut row = rows::row();
+    let first = rows::put_number(&mut row, 0, place, 7);
+    let second = rows::put_float(&mut row, first, words::float_of(weight));
+    let third = rows::put_float(&mut row, second, words::float_of(total));
+    let fourth = rows::put_bits(&mut row, third, weight);
+    let end = rows::put_bits(&mut row, fourth, total);
+    rows::write(STDOUT_FILENO, &mut row, end)
+}
+
+fn write_entries(h: Header, store: &[u64], table: &[u64], count: usize) -> bool {
+    let mut i: usize = 0;
+    while i < 256 {
+        if count <= i {
+            return true;
+        }
+        let place = word_at(table, 2 * i);
+        if !write_entry(place, weight_at(store, h, place), word_at(table, 2 * i + 1)) {
+            return false;
+        }
+        i += 1;
+    }
+    true
+}
+
+pub fn write_table(h: Header, store: &[u64]) -> bool {
+    let mut table = [0u64; 512];
+    let size = h.size;
+    let a = table::table(h, store, &mut table);
+    if a.number != 0 {
+        tell_refused(b"the table", a.number, size.capacity);
+        return false;
+    }
+    io::write_all(
+        STDOUT_FILENO,
+        b"# place weight         running_total  weight_bits      running_total_bits\n",
+    );
+    is_written(write_entries(h, store, &table, a.length / 2))
+}
+
+// ---- the summary
+
+fn say_count(name: &[u8], v: u64) {
+    let mut row = rows::row();
+    let at = rows::put_left(&mut row, 0, name, 10);
+    let end = rows::put_digits(&mut row, at, v);
+    rows::write(STDERR_FILENO, &mut row, rows::after(at, end, 1));
+}
+
+fn say_lost(x: f64) {
+    let mut row = rows::row();
+    let at = rows::put_left(&mut row, 0, b"lost", 10);
+    let text = rows::put_float(&mut row, at, x);
+    let end = rows::put_left(&mut row, text, b"of the initial weight", 21);
+    rows::write(STDERR_FILENO, &mut row, end);
+}
+
+pub fn say_summary(r: Run) {
+    let h = r.header;
+    let size = h.size;
+    let t = r.totals;
+    say_count(b"qubits", size.n as u64);
+    say_count(b"calls", t.calls);
+    say_count(b"entries", h.count as u64);
+    say_count(b"merged", t.merged);
+    say_count(b"stored", t.stored);
+    say_count(b"dropped", t.dropped);
+    say_count(b"compared", t.compared);
+    say_lost(t.lost);
+}

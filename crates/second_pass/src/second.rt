@@ -1,0 +1,357 @@
+// The second pass: the lines are run. `}` goes back to the line after its REPEAT while repetitions are left.
+use crate::calls;
+use crate::trace;
+use circuit::Act;
+use circuit::Item;
+use circuit::Line;
+use circuit::Seen;
+use drops::Lost;
+use input::Found;
+use model::Answer;
+use model::Header;
+use walk::Outcome;
+use walk::Walk;
+ghost use mathlib.Core.Path.{_≡_};
+ghost use Prim.Native.Nat.{_≤_};
+ghost use lib.ListN.{length};
+
+// What the calls so far came to.
+pub struct Totals {
+    pub calls: u64,
+    pub merged: u64,
+    pub stored: u64,
+    pub dropped: u64,
+    pub compared: u64,
+    // The fraction of the initial weight.
+    pub lost: f64,
+}
+
+// The walk, the sum's header, and what the calls came to.
+pub struct Run {
+    pub walk: Walk,
+    pub header: Header,
+    pub totals: Totals,
+}
+
+// What is wanted besides the sum: a line for each call, the weight that is lost.
+pub struct Wanted {
+    pub trace: bool,
+    pub losses: bool,
+}
+
+// ---- what a call came to
+
+fn plus(a: u64, b: usize) -> u64 {
+    if a <= u64::MAX - b as u64 {
+        return a + b as u64;
+    }
+    u64::MAX
+}
+
+fn added(t: Totals, a: Answer, lost: f64) -> Totals {
+    let c = a.counts;
+    Totals {
+        calls: walk::next(t.calls),
+        merged: plus(t.merged, c.merged),
+        stored: plus(t.stored, c.stored),
+        dropped: plus(t.dropped, c.dropped),
+        compared: plus(t.compared, c.compared),
+        lost,
+    }
+}
+
+fn with_walk(r: Run, walk: Walk) -> Run
+    ensures { λ a. ⌜ (a .walk .window .from ≡ walk .window .from) × (a .walk .window .to ≡ walk .window .to) ⌝ }
+{
+    let header = r.header;
+    let totals = r.totals;
+    Run {
+        walk,
+        header,
+        totals,
+    }
+}
+
+fn ended(r: Run, outcome: Outcome, from: usize, to: usize) -> Run {
+    with_walk(r, walk::ended(r.walk, outcome, from, to))
+}
+
+// ---- calls
+
+// The weights that a call loses, and what has been lost of the initial weight after it.
+struct Losses {
+    here: Lost,
+    all: f64,
+}
+
+fn losses_of(
+    h: Header,
+    scratch: &mut [u64],
+    act: Act,
+    rates: [f64; 15],
+    p: usize,
+    q: usize,
+    a: Answer,
+    lost: f64,
+) -> Losses {
+    if calls::has_lost(h, a) {
+        let counts = a.counts;
+        let total = calls::total(scratch, h);
+        let here = calls::losses(h, scratch, act, rates, p, q);
+        return Losses {
+            here,
+            all: calls::lost_after(lost, here, total, 0 < counts.dropped),
+        };
+    }
+    Losses {
+        here: calls::no_loss(),
+        all: lost,
+    }
+}
+
+// The answer, and what it lost.
+struct Made {
+    answer: Answer,
+    losses: Losses,
+}
+
+// The call is made; before it, where losses are wanted, the store is copied.
+fn make(
+    h: Header,
+    store: &mut [u64],
+    scratch: &mut [u64],
+    act: Act,
+    rates: [f64; 15],
+    p: usize,
+    q: usize,
+    lost: f64,
+    wanted: bool,
+) -> Made {
+    if !wanted {
+        let answer = calls::make(h, store, act, rates, p, q);
+        return Made {
+            answer,
+            losses: Losses {
+                here: calls::no_loss(),
+                all: lost,
+            },
+        };
+    }
+    calls::copy(scratch, store);
+    let answer = calls::make(h, store, act, rates, p, q);
+    Made {
+        answer,
+        losses: losses_of(h, scratch, act, rates, p, q, answer, lost),
+    }
+}
+
+// The run after a call.
+fn after_call(r: Run, l: Line, p: usize, q: usize, m: Made, written: bool) -> Run {
+    let a = m.answer;
+    let losses = m.losses;
+    if a.number != 0 {
+        return ended(r, Outcome::Refused(a.number, p, q), l.from, l.to);
+    }
+    if !written {
+        return ended(r, Outcome::Unwritten, 0, 0);
+    }
+    let walk = r.walk;
+    let header = a.header;
+    Run {
+        walk,
+        header,
+        totals: added(r.totals, a, losses.all),
+    }
+}
+
+// One call, on a qubit or a pair.
+fn call(
+    line: &[u8],
+    l: Line,
+    act: Act,
+    p: usize,
+    q: usize,
+    store: &mut [u64],
+    scratch: &mut [u64],
+    r: Run,
+    wanted: Wanted,
+) -> Run {
+    let walk = r.walk;
+    let totals = r.totals;
+    let rates = l.rates;
+    let needed = wanted.losses && calls::can_lose(act);
+    let m = make(
+        r.header,
+        store,
+        scratch,
+        act,
+        rates,
+        p,
+        q,
+        totals.lost,
+        needed,
+    );
+    let losses = m.losses;
+    let mut written = true;
+    if wanted.trace {
+        written = trace::write(walk.line, line, l, act, p, q, m.answer, losses.here);
+    }
+    after_call(r, l, p, q, m, written)
+}
+
+// The calls of a line, target by target.
+fn run_targets(
+    line: &[u8],
+    l: Line,
+    act: Act,
+    store: &mut [u64],
+    scratch: &mut [u64],
+    r: Run,
+    wanted: Wanted,
+) -> Run {
+    let pairs = circuit::takes_pairs(act);
+    let mut run = r;
+    let mut at = l.targets;
+    loop {
+        let t = circuit::target(line, at, pairs);
+        let seen = t.seen;
+        let Seen::At(p, q) = seen else {
+            return run;
+        };
+        run = call(line, l, act, p, q, store, scratch, run, wanted);
+        if !walk::is_going(run.walk) {
+            return run;
+        }
+        at = t.to;
+    }
+}
+
+// ---- blocks: of each that is open, the offset and the line where it begins, and how often it is still to be repeated
+
+fn open(stack: &mut [u64; 192], w: Walk, times: u64, from: usize, to: usize) -> Walk {
+    let depth = w.depth;
+    let window = w.window;
+    if depth < 64 {
+        if 0 < times {
+            stack[3 * depth] = window.next;
+            stack[3 * depth + 1] = w.line;
+            stack[3 * depth + 2] = times - 1;
+            return walk::at_depth(w, depth + 1);
+        }
+    }
+    walk::ended(w, Outcome::TooDeep, from, to)
+}
+
+fn close(stack: &mut [u64; 192], w: Walk, from: usize, to: usize) -> Walk {
+    let depth = w.depth;
+    if 0 < depth {
+        if depth <= 64 {
+            let top = 3 * (depth - 1);
+            let left = stack[top + 2];
+            if left == 0 {
+                return walk::at_depth(w, depth - 1);
+            }
+            stack[top + 2] = left - 1;
+            return walk::jumped(w, stack[top], stack[top + 1]);
+        }
+    }
+    walk::ended(w, Outcome::NoRepeat, from, to)
+}
+
+// ---- lines
+
+fn run_item(
+    line: &[u8],
+    stack: &mut [u64; 192],
+    store: &mut [u64],
+    scratch: &mut [u64],
+    r: Run,
+    wanted: Wanted,
+) -> Run {
+    let l = circuit::parse(line);
+    let item = l.item;
+    match item {
+        Item::Nothing => r,
+        Item::Bad(fault) => ended(r, Outcome::Bad(fault), l.from, l.to),
+        Item::Call(act) => run_targets(line, l, act, store, scratch, r, wanted),
+        Item::Repeat(times) => with_walk(r, open(stack, r.walk, times, l.from, l.to)),
+        Item::Close => with_walk(r, close(stack, r.walk, l.from, l.to)),
+    }
+}
+
+// What the window has found.
+fn run_found(
+    bytes: &[u8],
+    stack: &mut [u64; 192],
+    store: &mut [u64],
+    scratch: &mut [u64],
+    r: Run,
+    wanted: Wanted,
+) -> Run
+    requires { ⌜ (r .walk .window .from ≤ r .walk .window .to) × (r .walk .window .to ≤ length (now bytes)) ⌝ }
+{
+    let walk = r.walk;
+    let window = walk.window;
+    let found = window.found;
+    let from = window.from;
+    let to = window.to;
+    match found {
+        Found::Line => run_item(&bytes[from..to], stack, store, scratch, r, wanted),
+        Found::End => ended(r, Outcome::Done, 0, 0),
+        Found::TooLong => ended(r, Outcome::TooLong, 0, 0),
+        Found::Failed => ended(r, Outcome::Failed, 0, 0),
+    }
+}
+
+// The next line.
+fn run_line(
+    fd: i32,
+    bytes: &mut [u8],
+    stack: &mut [u64; 192],
+    store: &mut [u64],
+    scratch: &mut [u64],
+    r: Run,
+    wanted: Wanted,
+) -> Run {
+    let before = r.walk;
+    let window = input::next_line(fd, bytes, before.window);
+    let next = with_walk(r, walk::moved(before, window));
+    run_found(bytes, stack, store, scratch, next, wanted)
+}
+
+pub fn start(header: Header) -> Run {
+    Run {
+        walk: walk::start(),
+        header,
+        totals: Totals {
+            calls: 0,
+            merged: 0,
+            stored: 0,
+            dropped: 0,
+            compared: 0,
+            lost: 0.0,
+        },
+    }
+}
+
+// The whole circuit.
+pub fn run_all(
+    fd: i32,
+    bytes: &mut [u8],
+    store: &mut [u64],
+    scratch: &mut [u64],
+    header: Header,
+    wanted: Wanted,
+) -> Run {
+    let mut stack = [0u64; 192];
+    let mut r = start(header);
+    let mut turns = u64::MAX;
+    while turns > 0 {
+        r = run_line(fd, bytes, &mut stack, store, scratch, r, wanted);
+        if !walk::is_going(r.walk) {
+            return r;
+        }
+        turns -= 1;
+    }
+    r
+}

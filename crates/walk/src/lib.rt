@@ -1,0 +1,124 @@
+// A walk through the lines of a circuit: where it stands, and how it ended.
+use circuit::Fault;
+use input::Window;
+ghost use mathlib.Core.Path.{_≡_};
+
+// Why a walk stands still.
+pub enum Outcome {
+    // It does not.
+    Going,
+    // The circuit's end.
+    Done,
+    // A word of the line is at fault.
+    Bad(Fault),
+    // The line has no end within the window.
+    TooLong,
+    // It could not be read.
+    Failed,
+    // REPEAT in 64 others; `}` with no REPEAT; the REPEAT of this line without `}`.
+    TooDeep,
+    NoRepeat,
+    Unclosed(u64),
+    // A call on these qubits gave this number.
+    Refused(u64, usize, usize),
+    // A line of the trace could not be written.
+    Unwritten,
+}
+
+// The window and the number of the line that was read last, and how many REPEATs are open; the word that the outcome speaks of, from a place
+// of the line to another.
+pub struct Walk {
+    pub window: Window,
+    pub line: u64,
+    pub depth: usize,
+    pub outcome: Outcome,
+    pub from: usize,
+    pub to: usize,
+}
+
+pub fn start() -> Walk {
+    Walk {
+        window: input::start(),
+        line: 0,
+        depth: 0,
+        outcome: Outcome::Going,
+        from: 0,
+        to: 0,
+    }
+}
+
+// One more than n, as far as numbers go.
+pub fn next(n: u64) -> u64 {
+    if n < u64::MAX {
+        return n + 1;
+    }
+    n
+}
+
+// The walk at its next line.
+pub fn moved(w: Walk, window: Window) -> Walk
+    ensures { λ r. ⌜ (r .window .from ≡ window .from) × (r .window .to ≡ window .to) ⌝ }
+{
+    Walk {
+        window,
+        line: next(w.line),
+        depth: w.depth,
+        outcome: Outcome::Going,
+        from: 0,
+        to: 0,
+    }
+}
+
+// .. ends, at a word.
+pub fn ended(w: Walk, outcome: Outcome, from: usize, to: usize) -> Walk {
+    let window = w.window;
+    Walk {
+        window,
+        line: w.line,
+        depth: w.depth,
+        outcome,
+        from,
+        to,
+    }
+}
+
+// .. is in or out of a block.
+pub fn at_depth(w: Walk, depth: usize) -> Walk {
+    let window = w.window;
+    Walk {
+        window,
+        line: w.line,
+        depth,
+        outcome: Outcome::Going,
+        from: 0,
+        to: 0,
+    }
+}
+
+// .. goes on at another offset, after this line.
+pub fn jumped(w: Walk, offset: u64, line: u64) -> Walk {
+    Walk {
+        window: input::jumped(w.window, offset),
+        line,
+        depth: w.depth,
+        outcome: Outcome::Going,
+        from: 0,
+        to: 0,
+    }
+}
+
+pub fn is_going(w: Walk) -> bool {
+    let outcome = w.outcome;
+    match outcome {
+        Outcome::Going => true,
+        _ => false,
+    }
+}
+
+pub fn is_done(w: Walk) -> bool {
+    let outcome = w.outcome;
+    match outcome {
+        Outcome::Done => true,
+        _ => false,
+    }
+}
