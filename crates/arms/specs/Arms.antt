@@ -21,7 +21,7 @@ pauliAt (suc (suc (suc i))) = Z
 
 -- branch a: X, Y, Z; the pairs IX, IY, IZ, XI, ..
 unfoldable pub mutationAt : Shape → ℕ → BranchMutation
-mutationAt (One q) a = pauli (pauliAt (a + 1)) q
+mutationAt (One q) a = pauli (pauliAt ((a + 1) % 4)) q
 mutationAt (Lose q) a = loss q
 mutationAt (Two p q) a = pair (pauliAt ((a + 1) / 4)) p (pauliAt ((a + 1) % 4)) q
 

@@ -48,7 +48,7 @@ pub fn mutation_at(shape: Shape, a: usize) -> BranchMutation
     ensures { λ r. ⌜ r ≡ Spec.mutationAt shape a ⌝ }
 {
     match shape {
-        Shape::One(q) => BranchMutation::Pauli(pauli_at(a + 1), q),
+        Shape::One(q) => BranchMutation::Pauli(pauli_at((a + 1) % 4), q),
         Shape::Lose(q) => BranchMutation::Loss(q),
         Shape::Two(p, q) => {
             BranchMutation::Pair(pauli_at((a + 1) / 4), p, pauli_at((a + 1) % 4), q)

@@ -56,7 +56,7 @@ module _ (c : BranchMutation) (rows : List ℕ) where
       ∙ ap (λ (p : ℕ). record { x = xAt rows i; z = zAt rows i; phase = p }) (word-kept i 2)
 
   -- row i's words, and those after them
-  row-first : (i : ℕ) → 3 * i + 2 < length rows → drop (3 * i) rows ≡ xAt rows i ∷ zAt rows i ∷ phaseAt rows i ∷ drop (3 * (i + 1)) rows
+  pub row-first : (i : ℕ) → 3 * i + 2 < length rows → drop (3 * i) rows ≡ xAt rows i ∷ zAt rows i ∷ phaseAt rows i ∷ drop (3 * (i + 1)) rows
   row-first i h =
       drop-next rows (3 * i) (3 * i + 1) (omega arith) (omega arith)
       ∙ ap (λ (l : List ℕ). xAt rows i ∷ l)
@@ -75,12 +75,12 @@ module _ (c : BranchMutation) (rows : List ℕ) where
       ∙ ap (λ (k : ℕ). done k ++ drop (3 * (i + 1)) rows) (sym (add-one i))
 
   -- a turn: the code works the phase out from the rows so far
-  pub flipped-next : {l : List ℕ} {f t : ℕ} (i : ℕ) → l ≡ flippedBelow c i rows → 3 * i + 2 < length rows → f ≡ flipsBy c (rowAt l i) → t ≡ pick f 2
+  pub flipped-next : {l : List ℕ} {t : ℕ} (i : ℕ) → l ≡ flippedBelow c i rows → 3 * i + 2 < length rows → t ≡ pick (flipsBy c (rowAt l i)) 2
       → set l (3 * i + 2) (bitXor (phaseAt l i) t) ≡ flippedBelow c (i + 1) rows
   unfolding flippedRow
-  flipped-next {l} {f} {t} i e h p q =
+  flipped-next {l} {t} i e h p =
       let v : bitXor (phaseAt l i) t ≡ flippedRow c (rowAt rows i) .phase =
-      ap (bitXor (phaseAt l i)) (q ∙ ap (λ (b : ℕ). pick b 2) p) ∙ ap (λ (r : Row). flippedRow c r .phase) (ap (λ (w : List ℕ). rowAt w i) e ∙ row-kept i) in
+      ap (bitXor (phaseAt l i)) p ∙ ap (λ (r : Row). flippedRow c r .phase) (ap (λ (w : List ℕ). rowAt w i) e ∙ row-kept i) in
       ap₂ (λ (w : List ℕ) (x : ℕ). set w (3 * i + 2) x) e v ∙ phase-set i h
 
   pub flipped-end : {l : List ℕ} (n i : ℕ) → i ≡ 2 * n → length rows ≡ 3 * (2 * n) → l ≡ flippedBelow c i rows → l ≡ mapRows n (flippedRow c) rows

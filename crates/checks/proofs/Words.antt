@@ -1,21 +1,21 @@
 -- What the tests of a word, a coefficient and a row come to. Assumes nothing.
-use mathlib.Core.Path.{_≡_, refl, sym, ap, ap₂, _∙_}
+use mathlib.Core.Path.{_≡_, refl, sym, ap, _∙_}
 use mathlib.Core.Bool.{Bool, true, false, cond, not, _&&_}
 use mathlib.Core.List.{List}
 use Prim.Native.Nat.{ℕ, zero, suc, _+_, _*_, _/_, _%_, _^_, _<_, _≤_}
 use native.Mathlib.Nat.{div-eq-of-lt, div-add-mod', mod-lt, zero-mul, mul-le-mul}
 use native.Mathlib.Omega.{arith}
-use lib.Dec.{eqb, leb, ltb}
+use lib.Dec.{eqb, leb}
 use lib.Ieee.{Float, nan, inf, fin, binary64, ofBits, ofFields, odd, lt, le}
 use lib.Pow.{pow-pos}
-use borrow.Author.Tests.{leb-true, lt-ltb, le-ltb, le-leb, lt-leb, eq-eqb, ne-eqb}
+use borrow.Author.Tests.{leb-true, lt-ltb, le-ltb, eq-eqb, ne-eqb}
 use Rattle.model.proofs.Lists.{and-both, every-both}
 use Rattle.model.specs.Lists.{every}
 use Rattle.checks.specs.Sized.{entrySound}
 use Rattle.model.specs.Floats.{float, finite}
-use Rattle.model.specs.Entries.{Body, Entry, Row, indexAt, reAt, imAt, entryLen}
+use Rattle.model.specs.Entries.{Body, Entry, indexAt, reAt, imAt, entryLen}
 use Rattle.model.specs.declared.Size.{Size}
-use Rattle.model.specs.Numbers.{oneTo, maxQubits, maxCoefficients, maxCapacity, sizeSound, fitsIn, coefSound, rowSound, coefsSound, rowsSound, bodySound, weightSound, weightsSound, bodiesSound, entriesSound}
+use Rattle.model.specs.Numbers.{oneTo, maxQubits, maxCoefficients, maxCapacity, sizeSound, fitsIn, coefSound, coefsSound, rowsSound, bodySound, weightSound, weightsSound, bodiesSound, entriesSound}
 
 -- ---- floats
 
@@ -63,12 +63,6 @@ fits-not n top w e h = ne-eqb (w / 2 ^ n) 0 (λ z. too-large (div-add-mod' w (2 
   where
     too-large : w / 2 ^ n * 2 ^ n + w % 2 ^ n ≡ w → w % 2 ^ n < 2 ^ n → w / 2 ^ n ≡ 0 → ⊥
     too-large d m z = omega (arith, ap (λ (q : ℕ). q * 2 ^ n + w % 2 ^ n) z, zero-mul (2 ^ n))
-
--- ---- a row
-
-pub row-tests : {a b d : Bool} (n : ℕ) (r : Row) → a ≡ fitsIn n (r .x) → b ≡ fitsIn n (r .z) → d ≡ leb (r .phase) 3 → (a && b && d) ≡ rowSound n r
-unfolding rowSound
-row-tests n r p q t = rw (p, q, t)
 
 -- ---- a coefficient
 

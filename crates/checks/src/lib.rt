@@ -4,12 +4,12 @@ use model::Counts;
 use model::Header;
 use model::Size;
 ghost use mathlib.Core.Path.{_≡_};
-ghost use mathlib.Core.Bool.{_&&_};
+ghost use mathlib.Core.Bool.{true, _&&_};
 ghost use mathlib.Core.List.{map};
 ghost use Prim.Native.Nat.{_+_, _*_, _^_, _<_, _≤_};
 ghost use lib.ListN.{length};
 ghost use Rattle.model.specs.Floats.{float, finite, finiteFromZero};
-ghost use Rattle.model.specs.Entries.{entryLen, headLen, coefsLen, rowsLen, rowAt, entryOf, strip, listed, pastCount};
+ghost use Rattle.model.specs.Entries.{entryLen, entryOf, strip, listed};
 ghost use Rattle.model.specs.Numbers as Numbers;
 ghost use Rattle.model.specs.Lists.{allBelow};
 ghost use Rattle.model.specs.Calls.{held, shape, padded, plainAnswer, zeroHeader};
@@ -167,13 +167,6 @@ pub fn weight_sound(w: u64) -> bool
     false
 }
 
-// The bits of a float that is neither NaN nor infinite: the exponent's field is not all ones.
-pub fn finite_bits(w: u64) -> bool
-    ensures { λ r. ⌜ r ≡ finite (float w) ⌝ }
-{
-    (w >> 52) % 2048 != 2047
-}
-
 // The largest word with no bit at n or higher.
 pub fn largest(n: usize) -> u64
     requires { ⌜ n ≤ 64 ⌝ }
@@ -185,73 +178,86 @@ pub fn largest(n: usize) -> u64
     0xffff_ffff_ffff_ffff
 }
 
-// Coefficient place j: counted, neither part NaN nor infinite; unused, 0.
-pub fn coef_sound(coefs: &[u64], count: u64, j: usize) -> bool
-    requires { ⌜ 3 * j + 3 ≤ length (now coefs) ⌝ }
-    ensures { λ r. ⌜ r ≡ Numbers.coefSound count (now (coefs .entry)) j ⌝ }
+// The exponent's field of a float's bits, and 1: 2048, the only one with a bit at 11, for a NaN or an infinity.
+pub fn exponent_next(w: u64) -> u64
+    ensures { λ r. ⌜ Numbers.fitsIn 11 r ≡ finite (float w) ⌝ }
 {
-    let at = 3 * j;
-    let re = coefs[at + 1];
-    let im = coefs[at + 2];
-    if (j as u64) < count {
-        if finite_bits(re) {
-            return finite_bits(im);
-        }
-        return false;
+    (w >> 52) % 2048 + 1
+}
+
+// The first `used` coefficients, all of them counted: neither part NaN nor infinite. In one OR, so with no way out on the way.
+pub fn counted_sound(coefs: &[u64], count: u64, used: usize) -> bool
+    requires { ⌜ (used ≤ 64) × (used ≤ count) × (3 * used ≤ length (now coefs)) ⌝ }
+    ensures { λ r. ⌜ r ≡ allBelow (Numbers.coefSound count (now (coefs .entry))) used ⌝ }
+{
+    let mut any: u64 = 0;
+    let mut j: usize = 0;
+    while j < used {
+        let at = 3 * j;
+        any = any | (exponent_next(coefs[at + 1]) | exponent_next(coefs[at + 2]));
+        j += 1;
     }
-    if coefs[at] != 0 {
-        return false;
+    any <= 2047
+}
+
+// The places from `used` to k, none of them counted: 0.
+pub fn unused_sound(coefs: &[u64], count: u64, used: usize, k: usize) -> bool
+    requires { ⌜ (k ≤ 64) × (count ≤ used) × (used ≤ k) × (3 * k ≤ length (now coefs)) × (allBelow (Numbers.coefSound count (now coefs)) used ≡ true) ⌝ }
+    ensures { λ r. ⌜ r ≡ Numbers.coefsSound k count (now (coefs .entry)) ⌝ }
+{
+    let mut any: u64 = 0;
+    let mut j = used;
+    while j < k {
+        let at = 3 * j;
+        any = any | (coefs[at] | coefs[at + 1] | coefs[at + 2]);
+        j += 1;
     }
-    if re != 0 {
-        return false;
-    }
-    im == 0
+    any == 0
 }
 
 pub fn coefs_sound(coefs: &[u64], k: usize, count: u64) -> bool
     requires { ⌜ (k ≤ 64) × (3 * k ≤ length (now coefs)) ⌝ }
     ensures { λ r. ⌜ r ≡ Numbers.coefsSound k count (now (coefs .entry)) ⌝ }
 {
-    let mut j = 0;
-    while j < k {
-        if coef_sound(coefs, count, j) {
-            j += 1;
-        } else {
-            return false;
-        }
+    if (k as u64) <= count {
+        return counted_sound(coefs, count, k);
     }
-    true
+    let used = count as usize;
+    if counted_sound(coefs, count, used) {
+        return unused_sound(coefs, count, used, k);
+    }
+    false
 }
 
-// Row r has no bit of x or z at n or higher, and a phase of at most 3. `top` is the largest word that fits.
-pub fn row_sound(rows: &[u64], n: usize, top: u64, r: usize) -> bool
-    requires { ⌜ (top + 1 ≡ 2 ^ n) × (3 * r + 3 ≤ length (now rows)) ⌝ }
-    ensures { λ s. ⌜ s ≡ Numbers.rowSound n (rowAt (now (rows .entry)) r) ⌝ }
-{
-    let at = 3 * r;
-    if top < rows[at] {
-        return false;
-    }
-    if top < rows[at + 1] {
-        return false;
-    }
-    rows[at + 2] <= 3
-}
-
+// No row has a bit of x or z at n or higher, or a phase above 3: neither has the OR of all. A pair of rows a turn, with an OR of its own
+// for each of its six words, so that wide instructions do it.
 pub fn rows_sound(rows: &[u64], n: usize) -> bool
     requires { ⌜ (n ≤ 64) × (3 * (2 * n) ≤ length (now rows)) ⌝ }
     ensures { λ r. ⌜ r ≡ Numbers.rowsSound n (now (rows .entry)) ⌝ }
 {
-    let top = largest(n);
-    let mut r = 0;
-    while r < 2 * n {
-        if row_sound(rows, n, top, r) {
-            r += 1;
-        } else {
-            return false;
-        }
+    let mut a: u64 = 0;
+    let mut b: u64 = 0;
+    let mut c: u64 = 0;
+    let mut d: u64 = 0;
+    let mut e: u64 = 0;
+    let mut f: u64 = 0;
+    let mut i: usize = 0;
+    while i < n {
+        let at = 6 * i;
+        a = a | rows[at];
+        b = b | rows[at + 1];
+        c = c | rows[at + 2];
+        d = d | rows[at + 3];
+        e = e | rows[at + 4];
+        f = f | rows[at + 5];
+        i += 1;
     }
-    true
+    let words = (a | b) | (d | e);
+    let phases = c | f;
+    if largest(n) < words {
+        return false;
+    }
+    phases <= 3
 }
 
 // Every word of an entry but weight and keys is one that a call accepts.
@@ -303,18 +309,17 @@ pub fn entries_sound(store: &[u64], size: Size, count: usize) -> bool
     true
 }
 
-// Every word is 0.
+// Every word is 0: their OR is.
 pub fn all_zero(part: &[u64]) -> bool
     ensures { λ r. ⌜ r ≡ Numbers.allZero (now (part .entry)) ⌝ }
 {
+    let mut any: u64 = 0;
     let mut i = 0;
     while i < part.len() {
-        if part[i] != 0 {
-            return false;
-        }
+        any = any | part[i];
         i += 1;
     }
-    true
+    any == 0
 }
 
 // Number 5 does not apply: the listed entries are sound, and the slots past the count are 0.

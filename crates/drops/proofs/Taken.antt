@@ -27,8 +27,8 @@ use Rattle.noise.proofs.Ends.{with-room, no-room-left, nothing-left}
 use Rattle.noise.proofs.Ran.{same-tally, ends-as, ran-refused}
 use Rattle.channels.specs.Tests.{tested}
 use Rattle.channels.proofs.Tested.{turned-away, passes}
-use Rattle.reset.specs.Leaving.{leaving, Parted}
-use Rattle.reset.specs.Return.{live, Merged, resetBy}
+use Rattle.places.specs.Leaving.{leaving}
+use Rattle.reset.specs.Return.{lostOf, Merged, resetBy}
 use Rattle.reset.proofs.Leaves.{tally-is}
 use Rattle.drops.specs.Lost.{nothing, ifDone, droppedFrom, lightWeight, lightOf, truncatedFrom, worked, noiseTaken, resetTaken}
 use Rattle.drops.specs.declared.Lost.{Lost}
@@ -120,19 +120,18 @@ module _ (x : Lent) (r : Arms) (c : Noise) (h : Stands r c) (p : Progress) (w : 
 
 -- ---- a reset
 
-module _ (x : Lent) (q : ℕ) (es : List Keyed) (e : es ≡ readied (x .header .size) (x .header .dirty) (listed (x .header .size) (x .header .count) (x .words))) where
+module _ (x : Lent) (q : ℕ) (w : List ℕ) (e : listed (x .header .size) (x .header .count) w ≡ readied (x .header .size) (x .header .dirty) (listed (x .header .size) (x .header .count) (x .words))) where
   abbrev size : Size
   size = x .header .size
 
-  module _ (stay : ℕ) (w : List ℕ) (t : Parted size (x .header .count) stay (leaving q es .stay) (leaving q es .branches) w) where
-    abbrev now : List Keyed
-    now = listed size (x .header .count) w
+  abbrev given : List Keyed
+  given = listed size (x .header .count) w
 
-    pub reset-takes : (p : Progress) (v : List ℕ) → Merged size (x .header .threshold) (x .header .cutoff) (take stay now) (map (live size q) (drop stay now)) p v
-        → (before : Float) → before ≡ total keyedWeighed es → lost (droppedFrom before (tallyOf size p v)) (float zeroBits) ≡ resetTaken q x
-    unfolding resetTaken rebuilt
-    reset-takes p v m before b =
-        ap (λ (d : Float). lost d (float zeroBits)) (ap₂ droppedFrom (b ∙ ap (total keyedWeighed) e) (sym (tally-is x q es e stay w t p v m)))
+  pub reset-takes : (p : Progress) (v : List ℕ) → Merged size (x .header .threshold) (x .header .cutoff) (leaving q given .stay) (lostOf size q given) p v
+      → (before : Float) → before ≡ total keyedWeighed given → lost (droppedFrom before (tallyOf size p v)) (float zeroBits) ≡ resetTaken q x
+  unfolding resetTaken rebuilt
+  reset-takes p v m before b =
+      ap (λ (d : Float). lost d (float zeroBits)) (ap₂ droppedFrom (b ∙ ap (total keyedWeighed) e) (sym (tally-is x q w e p v m)))
 
 -- a reset that its tests let through is accepted
 pub reset-done : (x : Lent) (q : ℕ) → resetTaken q x ≡ ifDone (resetBy q x) (resetTaken q x)

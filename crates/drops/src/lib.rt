@@ -167,8 +167,7 @@ fn run_reset(h: Header, scratch: &mut [u64], q: usize) -> Lost
     let count = h.count;
     reset::ready(scratch, size, count, h.dirty);
     let before = weights::weights_total(scratch, size, count);
-    let stay = reset::part_lost(scratch, size, count, q);
-    let p = reset::merge_all_back(scratch, size, h.threshold, h.cutoff, stay, count, q);
+    let p = reset::merge_lost(scratch, size, count, h.threshold, h.cutoff, q);
     Lost {
         dropped: dropped_from(scratch, size, p, before),
         truncated: 0.0,

@@ -1,25 +1,25 @@
 -- H twice, S four times and CNOT of two qubits twice give each row back, so all rows: the bits that a gate flips are flipped twice, and the
 -- sign an even number of times. Assumes nothing.
 use mathlib.Core.Path.{_≡_, refl, sym, ap, ap₂, _∙_}
-use mathlib.Core.List.{List, _++_}
-use Prim.Native.Nat.{ℕ, zero, suc, _+_, _*_, _%_, _^_, _<_, _≤_}
-use native.Mathlib.Nat.{zero-mul, mul-comm, suc-mul, zero-div}
+use mathlib.Core.List.{List}
+use Prim.Native.Nat.{ℕ, zero, suc, _*_, _^_, _<_}
+use native.Mathlib.Nat.{zero-mul, mul-comm}
 use native.Mathlib.Omega.{arith}
 use lib.Bits.{bitXor, xor-comm, xor-lt, xor-zero-r}
-use lib.ListN.{length, take, drop, length-drop}
-use lib.Seq.{take-all, take-add, length-take-le}
+use lib.ListN.{length}
+use lib.Seq.{take-all}
 use Rattle.model.proofs.Xor.{xor-assoc, xor-cancel, xor-cancel-left, xor-swap}
-use Rattle.model.specs.Lists.{wordsBelow}
-use Rattle.model.specs.Entries.{Row, rowAt, rowWords, rowsBelow, mapRows}
+use Rattle.model.specs.Entries.{Row, rowAt, rowsBelow, mapRows}
 use Rattle.model.specs.Keys.{bit, pick}
 use Rattle.model.specs.Changes.{flips, flipsBy, flippedRow}
 use Rattle.model.specs.Gates.{xorBit, xorSign, turnedRow}
 use Rattle.model.specs.declared.BranchMutation.the-variants.{Pauli as pauli}
 use Rattle.model.specs.declared.Gate.the-variants.{H, S, Cnot}
 use Rattle.model.specs.declared.Pauli.the-variants.{Z}
-use Rattle.model.proofs.Picks.{bit-lt, bit-xor, pick-bits, bit-pow-same, bit-pow-other}
+use Rattle.model.proofs.Picks.{bit-lt, bit-xor, pick-bits, bit-pow-other}
 use Rattle.model.proofs.Rows.{mapRows-row}
-use Rattle.gates.proofs.Rows.{product-lt, Three, three, three-words, same-row, part-row}
+use Rattle.gates.proofs.Masks.{bit-none, bit-picked}
+use Rattle.gates.proofs.Rows.{product-lt, same-row, rows-ext, own-rows}
 
 -- f done k times
 unfoldable pub repeated : {X : Type 0} → ℕ → (X → X) → X → X
@@ -27,15 +27,6 @@ repeated zero f x = x
 repeated (suc k) f x = f (repeated k f x)
 
 -- ---- bits
-
-bit-none : (q : ℕ) → bit q 0 ≡ 0
-bit-none q = ap (λ (x : ℕ). x % 2) (zero-div (2 ^ q))
-
-bit-picked : (q b : ℕ) → b < 2 → bit q (pick b (2 ^ q)) ≡ b
-unfolding pick
-bit-picked q zero h = bit-none q
-bit-picked q (suc zero) h = bit-pow-same q
-bit-picked q (suc (suc b)) h = absurd (omega arith)
 
 bit-unpicked : (j q b : ℕ) → (j ≡ q → ⊥) → bit j (pick b (2 ^ q)) ≡ 0
 unfolding pick
@@ -137,24 +128,6 @@ cnot-twice a b ne r =
     (undone (r .phase) 1 (xa * zb * bitXor (bitXor xb za) 1) _ (ap₂ _*_ (ap₂ _*_ xa′ zb′) (ap₂ (λ (u v : ℕ). bitXor (bitXor u v) 1) xb′ za′) ∙ sign-again xa zb xb za lx lz))
 
 -- ---- all rows
-
-rows-ext : (f g : ℕ → Row) (m : ℕ) → ((r : ℕ) → r < m → f r ≡ g r) → rowsBelow f m ≡ rowsBelow g m
-unfolding wordsBelow
-rows-ext f g zero h = refl
-rows-ext f g (suc m) h = ap₂ (λ (a : List ℕ) (r : Row). a ++ rowWords r) (rows-ext f g m (λ r l. h r (omega arith))) (h m (omega arith))
-
-own-row : {l : List ℕ} → Three l → l ≡ rowWords (rowAt l 0)
-own-row (three a b c) = refl
-
--- rows made of themselves
-own-rows : (rows : List ℕ) (m : ℕ) → m * 3 ≤ length rows → rowsBelow (rowAt rows) m ≡ take (m * 3) rows
-unfolding wordsBelow
-own-rows rows zero h = refl
-own-rows rows (suc m) h =
-    let e : suc m * 3 ≡ m * 3 + 3 = suc-mul m 3 in
-    let k : length (take 3 (drop (m * 3) rows)) ≡ 3 = length-take-le 3 (drop (m * 3) rows) (omega (arith, length-drop (m * 3) rows)) in
-    let last : take 3 (drop (m * 3) rows) ≡ rowWords (rowAt rows m) = own-row (three-words _ k) ∙ ap rowWords (part-row rows m 3 refl) in
-    ap₂ (λ (a d : List ℕ). a ++ d) (own-rows rows m (omega arith)) (sym last) ∙ sym (take-add (m * 3) 3 rows) ∙ ap (λ (i : ℕ). take i rows) (sym e)
 
 module _ (n : ℕ) (f : Row → Row) (rows : List ℕ) (l : length rows ≡ 3 * (2 * n)) where
   own : rowsBelow (rowAt rows) (2 * n) ≡ rows

@@ -1,18 +1,13 @@
 -- What a gate's writes leave of a row's three words, and what the loop over rows has made of them so far. Assumes nothing.
 use mathlib.Core.Path.{_≡_, refl, sym, ap, ap₂, _∙_}
 use mathlib.Core.List.{List, [], _∷_, _++_, append-assoc, append-nil}
-use Prim.Native.Nat.{ℕ, _+_, _*_, _-_, _<_, _≤_}
-use native.Mathlib.Nat.{mul-le-mul, le-antisymm}
-use native.Mathlib.Numerals.{add-one}
+use Prim.Native.Nat.{ℕ, zero, suc, _+_, _*_, _-_, _<_, _≤_}
+use native.Mathlib.Nat.{mul-le-mul, le-antisymm, suc-mul}
 use native.Mathlib.Omega.{arith}
-use lib.Bits.{bitXor}
-use lib.ListN.{length, take, drop, getD, set, drop-of-length-le}
-use lib.Seq.{take-at, drop-at, drop-drop, getD-take, getD-drop}
+use lib.ListN.{length, take, drop, getD, length-append, length-drop, drop-of-length-le}
+use lib.Seq.{take-at, take-add, length-take-le, drop-at, drop-drop, getD-take, getD-drop}
 use Rattle.model.specs.Lists.{wordsBelow}
 use Rattle.model.specs.Entries.{Row, rowAt, rowWords, rowsBelow}
-use Rattle.model.specs.Keys.{xBit, zBit}
-use Rattle.model.specs.Gates.{xorBit, xorSign, turnedRow}
-use Rattle.model.specs.declared.Gate.the-variants.{H, S, Cnot}
 use Rattle.model.proofs.Groups.{lent}
 use Rattle.model.proofs.Rows.{wordsBelow-length}
 
@@ -35,34 +30,36 @@ three-words (a ∷ b ∷ []) e = absurd (omega arith)
 three-words (a ∷ b ∷ c ∷ []) e = three a b c
 three-words (a ∷ b ∷ c ∷ d ∷ l) e = absurd (omega arith)
 
-pub h-written : {l : List ℕ} {x z p v w : ℕ} (q : ℕ) → Three l → x ≡ xBit l q 0 → z ≡ zBit l q 0 → p ≡ xorSign (getD l 2 0) (x * z)
-    → v ≡ xorBit (getD (set l 2 p) 0 0) q (bitXor x z) → w ≡ xorBit (getD (set (set l 2 p) 0 v) 1 0) q (bitXor x z)
-    → set (set (set l 2 p) 0 v) 1 w ≡ rowWords (turnedRow (H q) (rowAt l 0))
-unfolding turnedRow
-h-written q (three a b c) ex ez ep ev ew = cc
-
-pub s-written : {l : List ℕ} {x z p w : ℕ} (q : ℕ) → Three l → x ≡ xBit l q 0 → z ≡ zBit l q 0 → p ≡ xorSign (getD l 2 0) (x * z)
-    → w ≡ xorBit (getD (set l 2 p) 1 0) q x → set (set l 2 p) 1 w ≡ rowWords (turnedRow (S q) (rowAt l 0))
-unfolding turnedRow
-s-written q (three a b c) ex ez ep ew = cc
-
-pub cnot-written : {l : List ℕ} {xa za xb zb d p v w : ℕ} (a b : ℕ) → Three l → xa ≡ xBit l a 0 → za ≡ zBit l a 0 → xb ≡ xBit l b 0 → zb ≡ zBit l b 0
-    → d ≡ bitXor (bitXor xb za) 1 → p ≡ xorSign (getD l 2 0) (xa * zb * d) → v ≡ xorBit (getD (set l 2 p) 0 0) b xa → w ≡ xorBit (getD (set (set l 2 p) 0 v) 1 0) a zb
-    → set (set (set l 2 p) 0 v) 1 w ≡ rowWords (turnedRow (Cnot a b) (rowAt l 0))
-unfolding turnedRow
-cnot-written a b (three x z p) exa eza exb ezb ed ep ev ew = cc
-
 -- ---- rows
 
 pub same-row : {a b c x z p : ℕ} → a ≡ x → b ≡ z → c ≡ p → _≡_ {A = Row} (record { x = a; z = b; phase = c }) (record { x = x; z = z; phase = p })
 same-row ea eb ec = cc
 
--- the row of a part that begins where row i does
-pub part-row : (l : List ℕ) (i k : ℕ) → k ≡ 3 → rowAt (take k (drop (i * 3) l)) 0 ≡ rowAt l i
-part-row l i k e = same-row (word 0 (3 * i) (omega arith) (omega arith)) (word 1 (3 * i + 1) (omega arith) (omega arith)) (word 2 (3 * i + 2) (omega arith) (omega arith))
+-- row r of a part that begins where row i − r does
+pub part-row : (l : List ℕ) (at k i r : ℕ) → 3 * r + 3 ≤ k → at + 3 * r ≡ 3 * i → rowAt (take k (drop at l)) r ≡ rowAt l i
+part-row l at k i r h e =
+    same-row (word (3 * r) (3 * i) (omega arith) (omega arith)) (word (3 * r + 1) (3 * i + 1) (omega arith) (omega arith)) (word (3 * r + 2) (3 * i + 2) (omega arith) (omega arith))
   where
-    word : (j at : ℕ) → j < k → i * 3 + j ≡ at → getD (take k (drop (i * 3) l)) j 0 ≡ getD l at 0
-    word j at h p = getD-take k (drop (i * 3) l) j 0 h ∙ getD-drop (i * 3) l j 0 ∙ ap (λ (n : ℕ). getD l n 0) p
+    word : (j to : ℕ) → j < k → at + j ≡ to → getD (take k (drop at l)) j 0 ≡ getD l to 0
+    word j to g p = getD-take k (drop at l) j 0 g ∙ getD-drop at l j 0 ∙ ap (λ (n : ℕ). getD l n 0) p
+
+pub rows-ext : (f g : ℕ → Row) (m : ℕ) → ((r : ℕ) → r < m → f r ≡ g r) → rowsBelow f m ≡ rowsBelow g m
+unfolding wordsBelow
+rows-ext f g zero h = refl
+rows-ext f g (suc m) h = ap₂ (λ (a : List ℕ) (r : Row). a ++ rowWords r) (rows-ext f g m (λ r l. h r (omega arith))) (h m (omega arith))
+
+own-row : {l : List ℕ} → Three l → l ≡ rowWords (rowAt l 0)
+own-row (three a b c) = refl
+
+-- rows made of themselves
+pub own-rows : (rows : List ℕ) (m : ℕ) → m * 3 ≤ length rows → rowsBelow (rowAt rows) m ≡ take (m * 3) rows
+unfolding wordsBelow
+own-rows rows zero h = refl
+own-rows rows (suc m) h =
+    let e : suc m * 3 ≡ m * 3 + 3 = suc-mul m 3 in
+    let k : length (take 3 (drop (m * 3) rows)) ≡ 3 = length-take-le 3 (drop (m * 3) rows) (omega (arith, length-drop (m * 3) rows)) in
+    let last : take 3 (drop (m * 3) rows) ≡ rowWords (rowAt rows m) = own-row (three-words _ k) ∙ ap rowWords (part-row rows (m * 3) 3 m 0 (omega arith) (omega arith)) in
+    ap₂ (λ (a d : List ℕ). a ++ d) (own-rows rows m (omega arith)) (sym last) ∙ sym (take-add (m * 3) 3 rows) ∙ ap (λ (i : ℕ). take i rows) (sym e)
 
 -- ---- the loop over rows
 
@@ -77,30 +74,37 @@ module _ (f : Row → Row) (old : List ℕ) where
   made-length : (i : ℕ) → length (made i) ≡ i * 3
   made-length i = wordsBelow-length 3 (λ r. rowWords (f (rowAt old r))) (λ r. refl) i ∙ (omega arith)
 
+  pub so-far-length : (i : ℕ) → i * 3 ≤ length old → length (so-far i) ≡ length old
+  so-far-length i h = omega (arith, length-append (made i) (drop (i * 3) old), made-length i, length-drop (i * 3) old)
+
   pub none-yet : old ≡ so-far 0
   unfolding wordsBelow
   none-yet = refl
 
-  -- row i is still the old one
-  lent-row : (i k : ℕ) → k ≡ 3 → rowAt (take k (drop (i * 3) (so-far i))) 0 ≡ rowAt old i
-  lent-row i k e =
-      ap (λ (l : List ℕ). rowAt (take k l) 0) (drop-at (made i) (drop (i * 3) old) (i * 3) (made-length i)) ∙ part-row old i k e
-
-  -- it is lent, and comes back as f makes it
-  pub row-next : {w new : List ℕ} (i : ℕ) → w ≡ so-far i → new ≡ rowWords (f (rowAt (take (i * 3 + 3 - i * 3) (drop (i * 3) w)) 0)) → lent 3 i w new ≡ so-far (i + 1)
+  -- rows 2i and 2i + 1 are lent, and come back as f makes them
+  pub pair-next : {w new : List ℕ} (i : ℕ) → w ≡ so-far (2 * i) → new ≡ rowsBelow (λ r. f (rowAt (take (i * 6 + 6 - i * 6) (drop (i * 6) w)) r)) 2
+      → lent 6 i w new ≡ so-far (2 * (i + 1))
   unfolding wordsBelow
-  row-next {w} {new} i e p =
-      let k = i * 3 + 3 - i * 3 in
-      let rest = drop (i * 3) old in
-      let words : k ≡ 3 = omega arith in
-      let end : i * 3 + k ≡ (i + 1) * 3 = omega arith in
-      let past : drop k rest ≡ drop ((i + 1) * 3) old = drop-drop k (i * 3) old ∙ ap (λ (n : ℕ). drop n old) end in
-      let row : new ≡ rowWords (f (rowAt old i)) = p ∙ ap (λ (l : List ℕ). rowWords (f (rowAt (take k (drop (i * 3) l)) 0))) e ∙ ap (λ (r : Row). rowWords (f r)) (lent-row i k words) in
-      ap (λ (l : List ℕ). lent 3 i l new) e
-      ∙ ap₂ (λ (a d : List ℕ). a ++ (new ++ drop k d)) (take-at (made i) rest (i * 3) (made-length i)) (drop-at (made i) rest (i * 3) (made-length i))
-      ∙ ap₂ (λ (a d : List ℕ). made i ++ (a ++ d)) row past
-      ∙ sym (append-assoc (made i) (rowWords (f (rowAt old i))) (drop ((i + 1) * 3) old))
-      ∙ ap (λ (m : ℕ). made m ++ drop ((i + 1) * 3) old) (sym (add-one i))
+  pair-next {w} {new} i e p =
+      let k = i * 6 + 6 - i * 6 in
+      let at = i * 6 in
+      let rest = drop (2 * i * 3) old in
+      let long : length (made (2 * i)) ≡ at = made-length (2 * i) ∙ (omega arith) in
+      let before : take at w ≡ made (2 * i) = ap (take at) e ∙ take-at (made (2 * i)) rest at long in
+      let behind : drop at w ≡ rest = ap (drop at) e ∙ drop-at (made (2 * i)) rest at long in
+      let end : 2 * i * 3 + k ≡ 2 * (i + 1) * 3 = omega arith in
+      let past : drop k rest ≡ drop (2 * (i + 1) * 3) old = drop-drop k (2 * i * 3) old ∙ ap (λ (n : ℕ). drop n old) end in
+      let first : rowAt (take k (drop at w)) 0 ≡ rowAt old (2 * i) = ap (λ (l : List ℕ). rowAt (take k l) 0) behind ∙ part-row old (2 * i * 3) k (2 * i) 0 (omega arith) (omega arith) in
+      let second : rowAt (take k (drop at w)) 1 ≡ rowAt old (suc (2 * i)) = ap (λ (l : List ℕ). rowAt (take k l) 1) behind ∙ part-row old (2 * i * 3) k (suc (2 * i)) 1 (omega arith) (omega arith) in
+      let two : 2 * (i + 1) ≡ suc (suc (2 * i)) = omega arith in
+      let a = rowWords (f (rowAt old (2 * i))) in
+      let b = rowWords (f (rowAt old (suc (2 * i)))) in
+      let rest′ = drop (2 * (i + 1) * 3) old in
+      ap₂ (λ (v d : List ℕ). v ++ (new ++ drop k d)) before behind
+      ∙ ap₂ (λ (v d : List ℕ). made (2 * i) ++ (v ++ d)) (p ∙ ap₂ (λ (x y : Row). rowWords (f x) ++ rowWords (f y)) first second) past
+      ∙ sym (append-assoc (made (2 * i)) (a ++ b) rest′)
+      ∙ ap (λ (v : List ℕ). v ++ rest′) (sym (append-assoc (made (2 * i)) a b))
+      ∙ ap (λ (m : ℕ). made m ++ rest′) (sym two)
 
   pub all-rows : {w : List ℕ} (i m : ℕ) → i ≤ m → m ≤ i → length old ≡ 3 * m → w ≡ so-far i → w ≡ made m
   all-rows i m p q l e =

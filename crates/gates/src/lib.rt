@@ -4,12 +4,11 @@ use model::Size;
 ghost use mathlib.Core.Path.{_≡_};
 ghost use mathlib.Core.Bool.{_||_};
 ghost use mathlib.Core.List.{map};
-ghost use Prim.Native.Nat.{_*_, _<_, _≤_};
-ghost use lib.Bits.{bitXor};
+ghost use Prim.Native.Nat.{_*_, _^_, _<_, _≤_};
 ghost use lib.ListN.{length};
-ghost use Rattle.model.specs.Entries.{entryLen, rowAt, rowWords, mapRows, entryOf, wordsOf, listed};
+ghost use Rattle.model.specs.Entries.{entryLen, rowAt, rowWords, rowsBelow, mapRows, entryOf, wordsOf, listed};
 ghost use Rattle.model.specs.Store.{keyedWeighed};
-ghost use Rattle.model.specs.Gates.{xorBit, turnedRow, turned, gateQubits};
+ghost use Rattle.model.specs.Gates.{turnedRow, turned, gateQubits};
 ghost use Rattle.model.specs.Numbers.{someNotBelow, bothTheSame};
 ghost use Rattle.model.specs.Calls as Calls;
 ghost use Rattle.model.specs.declared.Gate.the-variants.{H as h-gate, S as s-gate, Cnot as cnot-gate};
@@ -17,14 +16,13 @@ ghost use Rattle.model.proofs.Packed.{Packed};
 ghost use Rattle.checks.specs.Sized.{Within};
 ghost use Rattle.gates.specs.Qubits.{GateBelow};
 
-// ---- a row
+// ---- a row. Bits are taken by masks: `w & power(q)` is 2^q if bit q of w is set, else 0.
 
-// Bit q of a word XORed with the bit b.
-pub fn xor_bit(w: u64, q: usize, b: u64) -> u64
+pub fn power(q: usize) -> u64
     requires { ⌜ q < 64 ⌝ }
-    ensures { λ r. ⌜ r ≡ xorBit w q b ⌝ }
+    ensures { λ r. ⌜ r ≡ 2 ^ q ⌝ }
 {
-    w ^ keys::select(b, 1 << q)
+    1 << q
 }
 
 // H: r ^= x·z, swap x and z.
@@ -32,11 +30,13 @@ pub fn turn_h(row: &mut [u64], q: usize)
     requires { ⌜ (length (now row) ≡ 3) × (q < 64) ⌝ }
     ensures { λ _. ⌜ now (row .exit) ≡ rowWords (turnedRow (h-gate q) (rowAt (now (row .entry)) 0)) ⌝ }
 {
-    let x = keys::x_bit(row, 0, q);
-    let z = keys::z_bit(row, 0, q);
-    row[2] = xor_bit(row[2], 1, x * z);
-    row[0] = xor_bit(row[0], q, x ^ z);
-    row[1] = xor_bit(row[1], q, x ^ z);
+    let at = power(q);
+    let x = row[0];
+    let z = row[1];
+    let apart = (x ^ z) & at;
+    row[2] = row[2] ^ keys::select(x & z & at, 2);
+    row[0] = x ^ apart;
+    row[1] = z ^ apart;
 }
 
 // S: r ^= x·z, z ^= x.
@@ -44,32 +44,26 @@ pub fn turn_s(row: &mut [u64], q: usize)
     requires { ⌜ (length (now row) ≡ 3) × (q < 64) ⌝ }
     ensures { λ _. ⌜ now (row .exit) ≡ rowWords (turnedRow (s-gate q) (rowAt (now (row .entry)) 0)) ⌝ }
 {
-    let x = keys::x_bit(row, 0, q);
-    let z = keys::z_bit(row, 0, q);
-    row[2] = xor_bit(row[2], 1, x * z);
-    row[1] = xor_bit(row[1], q, x);
+    let x = row[0] & power(q);
+    let z = row[1];
+    row[2] = row[2] ^ keys::select(z & x, 2);
+    row[1] = z ^ x;
 }
 
-// x_b ^ z_a ^ 1: whether two bits are the same.
-pub fn same_bits(xb: u64, za: u64) -> u64
-    requires { ⌜ (xb < 2) × (za < 2) ⌝ }
-    ensures { λ r. ⌜ (r ≡ bitXor (bitXor xb za) 1) × (r < 2) ⌝ }
-{
-    xb ^ za ^ 1
-}
-
-// CNOT a to b: r ^= x_a·z_b·(x_b ^ z_a ^ 1), x_b ^= x_a, z_a ^= z_b.
+// CNOT a to b: r ^= x_a·z_b·(x_b ^ z_a ^ 1), x_b ^= x_a, z_a ^= z_b. Of z_b and x_b a copy at bit a is made, where x_a and z_a stand.
 pub fn turn_cnot(row: &mut [u64], a: usize, b: usize)
     requires { ⌜ (length (now row) ≡ 3) × (a < 64) × (b < 64) ⌝ }
     ensures { λ _. ⌜ now (row .exit) ≡ rowWords (turnedRow (cnot-gate a b) (rowAt (now (row .entry)) 0)) ⌝ }
 {
-    let xa = keys::x_bit(row, 0, a);
-    let za = keys::z_bit(row, 0, a);
-    let xb = keys::x_bit(row, 0, b);
-    let zb = keys::z_bit(row, 0, b);
-    row[2] = xor_bit(row[2], 1, xa * zb * same_bits(xb, za));
-    row[0] = xor_bit(row[0], b, xa);
-    row[1] = xor_bit(row[1], a, zb);
+    let at = power(a);
+    let to = power(b);
+    let x = row[0];
+    let z = row[1];
+    let zb = keys::select(z & to, at);
+    let xb = keys::select(x & to, at);
+    row[2] = row[2] ^ keys::select(x & zb & (xb ^ z ^ at), 2);
+    row[0] = x ^ keys::select(x & at, to);
+    row[1] = z ^ zb;
 }
 
 // A row of three words, by the gate's rule.
@@ -84,18 +78,27 @@ pub fn turn_row(row: &mut [u64], gate: Gate)
     }
 }
 
+// Two rows, by the gate's rule.
+pub fn turn_pair(pair: &mut [u64], gate: Gate)
+    requires { ⌜ (length (now pair) ≡ 6) × GateBelow 64 gate ⌝ }
+    ensures { λ _. ⌜ now (pair .exit) ≡ rowsBelow (λ r. turnedRow gate (rowAt (now (pair .entry)) r)) 2 ⌝ }
+{
+    turn_row(&mut pair[0..3], gate);
+    turn_row(&mut pair[3..6], gate);
+}
+
 // ---- entries
 
-// Each of 2n rows.
+// Each of 2n rows, two a turn.
 pub fn turn_rows(rows: &mut [u64], n: usize, gate: Gate)
     requires { ⌜ (length (now rows) ≡ 3 * (2 * n)) × (n ≤ 64) × GateBelow 64 gate ⌝ }
     ensures { λ _. ⌜ now (rows .exit) ≡ mapRows n (turnedRow gate) (now (rows .entry)) ⌝ }
 {
     let mut i = 0;
-    while i < 2 * n {
-        let at = i * 3;
-        let end = at + 3;
-        turn_row(&mut rows[at..end], gate);
+    while i < n {
+        let at = i * 6;
+        let end = at + 6;
+        turn_pair(&mut rows[at..end], gate);
         i += 1;
     }
 }

@@ -1,1 +1,2 @@
 pub mod Deltas
+pub mod Tables

@@ -7,7 +7,9 @@ ghost use Rattle.model.specs.Entries.{xAt, zAt, phaseAt};
 ghost use Rattle.model.specs.Keys.{usualSalts, mix, rowMask, bit, pick, xBit, zBit, maskSum, phaseMask, phaseKey, phaseLossKey, absorb, wordKey};
 ghost use Rattle.model.specs.Changes.{flipMasks, masksOf};
 ghost use Rattle.model.specs.declared.BranchMutation.the-variants.{Pauli as pauli};
-ghost use Rattle.keys.specs.Deltas.{DeltasAt, deltaOf};
+ghost use Rattle.keys.specs.Deltas.{DeltasAt, deltaOf, SignMasks, deltaTable};
+ghost use Rattle.keys.specs.Tables.{PhaseMasks, KeysOfFour};
+ghost use Rattle.model.specs.declared.Salts.{Salts};
 ghost use Rattle.model.specs.Qubits.{QubitsBelow};
 use model::BranchMutation;
 use model::Pauli;
@@ -74,7 +76,17 @@ pub fn absorb_word(h: u64, w: u64) -> u64
     finalize(std::num::wrapping_add_u64(h, GOLDEN) ^ w)
 }
 
-// The word key of 2n rows: for each row, x then z.
+// h with row i: x then z.
+pub fn absorb_row(h: u64, rows: &[u64], i: usize) -> u64
+    requires { ⌜ 3 * i + 3 ≤ length (now rows) ⌝ }
+    ensures { λ r. ⌜ r ≡ absorb (absorb h (xAt (now (rows .entry)) i)) (zAt (now (rows .entry)) i) ⌝ }
+{
+    let x = rows[3 * i];
+    let z = rows[3 * i + 1];
+    absorb_word(absorb_word(h, x), z)
+}
+
+// The word key of 2n rows.
 pub fn word_key(rows: &[u64], n: usize) -> u64
     requires { ⌜ (n ≤ 64) × (3 * (2 * n) ≤ length (now rows)) ⌝ }
     ensures { λ r. ⌜ r ≡ wordKey (2 * n) (xAt (now (rows .entry))) (zAt (now (rows .entry))) ⌝ }
@@ -83,12 +95,44 @@ pub fn word_key(rows: &[u64], n: usize) -> u64
     let mut h: u64 = 0;
     let mut i: usize = 0;
     while i < m {
-        let x = rows[3 * i];
-        let z = rows[3 * i + 1];
-        h = absorb_word(absorb_word(h, x), z);
+        h = absorb_row(h, rows, i);
         i += 1;
     }
     h
+}
+
+// The word keys of four entries.
+pub struct FourKeys {
+    pub a: u64,
+    pub b: u64,
+    pub c: u64,
+    pub d: u64,
+}
+
+// Four word keys at once. A step of a key waits for the step before it; four keys do not wait for each other.
+pub fn four_word_keys(a: &[u64], b: &[u64], c: &[u64], d: &[u64], n: usize) -> FourKeys
+    requires { ⌜ (n ≤ 64) × (3 * (2 * n) ≤ length (now a)) × (3 * (2 * n) ≤ length (now b)) × (3 * (2 * n) ≤ length (now c)) × (3 * (2 * n) ≤ length (now d)) ⌝ }
+    ensures { λ r. ⌜ KeysOfFour (2 * n) (now (a .entry)) (now (b .entry)) (now (c .entry)) (now (d .entry)) r ⌝ }
+{
+    let m = 2 * n;
+    let mut ha: u64 = 0;
+    let mut hb: u64 = 0;
+    let mut hc: u64 = 0;
+    let mut hd: u64 = 0;
+    let mut i: usize = 0;
+    while i < m {
+        ha = absorb_row(ha, a, i);
+        hb = absorb_row(hb, b, i);
+        hc = absorb_row(hc, c, i);
+        hd = absorb_row(hd, d, i);
+        i += 1;
+    }
+    FourKeys {
+        a: ha,
+        b: hb,
+        c: hc,
+        d: hd,
+    }
 }
 
 // ---- the phase-loss key
@@ -121,11 +165,47 @@ pub fn phase_key(salts: Salts, m: usize, rows: &[u64]) -> u64
     h
 }
 
+// The phase masks of m rows, as a table: words 4i to 4i + 3 are those of row i with phases 0 to 3.
+pub fn phase_masks(salts: Salts, m: usize) -> [u64; 512]
+    requires { ⌜ m ≤ 128 ⌝ }
+    ensures { λ r. ⌜ PhaseMasks salts m r ⌝ }
+{
+    let mut table = [0u64; 512];
+    let mut i: usize = 0;
+    while i < m {
+        let imag = imag_mask(salts, i);
+        let sign = sign_mask(salts, i);
+        table[4 * i + 1] = imag;
+        table[4 * i + 2] = sign;
+        table[4 * i + 3] = imag ^ sign;
+        i += 1;
+    }
+    table
+}
+
+// The XOR of the phase masks of m rows, from the table.
+pub fn phase_key_from(table: &[u64; 512], m: usize, rows: &[u64]) -> u64
+    requires { ⌜ (length (now table) ≡ 512) × (m ≤ 128) × (3 * m ≤ length (now rows)) ⌝ }
+    ensures { λ r. ⌜ ((s : Salts) → PhaseMasks s m (now (table .entry)) → r ≡ phaseKey s m (phaseAt (now (rows .entry)))) ⌝ }
+{
+    let mut h: u64 = 0;
+    let mut i: usize = 0;
+    while i < m {
+        let phase = (rows[3 * i + 2] % 4) as usize;
+        h = h ^ table[4 * i + phase];
+        i += 1;
+    }
+    h
+}
+
 // The XOR of the loss masks of the lost qubits of n.
 pub fn loss_key(salts: Salts, n: usize, loss: u64) -> u64
     requires { ⌜ n ≤ 64 ⌝ }
     ensures { λ r. ⌜ r ≡ maskSum (salts .loss) n (λ q. bit q loss) ⌝ }
 {
+    if loss == 0 {
+        return 0;
+    }
     let mut h: u64 = 0;
     let mut q: usize = 0;
     while q < n {
@@ -141,6 +221,20 @@ pub fn phase_loss_key(salts: Salts, n: usize, rows: &[u64], loss: u64) -> u64
     ensures { λ r. ⌜ r ≡ phaseLossKey salts n (phaseAt (now (rows .entry))) (λ q. bit q loss) ⌝ }
 {
     phase_key(salts, 2 * n, rows) ^ loss_key(salts, n, loss)
+}
+
+// The same, from the table.
+pub fn phase_loss_key_from(
+    salts: Salts,
+    table: &[u64; 512],
+    n: usize,
+    rows: &[u64],
+    loss: u64,
+) -> u64
+    requires { ⌜ PhaseMasks salts (2 * n) (now table) × (n ≤ 64) × (3 * (2 * n) ≤ length (now rows)) ⌝ }
+    ensures { λ r. ⌜ r ≡ phaseLossKey salts n (phaseAt (now (rows .entry))) (λ q. bit q loss) ⌝ }
+{
+    phase_key_from(table, 2 * n, rows) ^ loss_key(salts, n, loss)
 }
 
 // The full key: word key XOR phase-loss key.
@@ -247,4 +341,46 @@ pub fn toggle_loss(loss: u64, q: usize) -> u64
     ensures { λ r. ⌜ r ≡ bitXor loss (2 ^ q) ⌝ }
 {
     loss ^ (1 << q)
+}
+
+// ---- the same for many branches: the masks are worked out once, and a parent's rows are walked once a qubit
+
+// The sign masks of the first m rows.
+pub fn sign_masks(salts: Salts, m: usize) -> [u64; 128]
+    requires { ⌜ m ≤ 128 ⌝ }
+    ensures { λ r. ⌜ SignMasks salts m r ⌝ }
+{
+    let mut masks = [0u64; 128];
+    let mut i: usize = 0;
+    while i < m {
+        masks[i] = sign_mask(salts, i);
+        i += 1;
+    }
+    masks
+}
+
+// `select`, with no jump.
+pub fn times_bit(b: u64, m: u64) -> u64
+    requires { ⌜ b < 2 ⌝ }
+    ensures { λ r. ⌜ r ≡ pick b m ⌝ }
+{
+    m * b
+}
+
+// By how much I, X, Y and Z at qubit q change the phase-loss key, by the sign masks of the 2n rows.
+pub fn delta_table(masks: &[u64; 128], n: usize, rows: &[u64], q: usize) -> [u64; 4]
+    requires { ⌜ (q < 64) × (n ≤ 64) × (3 * (2 * n) ≤ length (now rows)) ⌝ }
+    ensures { λ r. ⌜ ((s : Salts) → SignMasks s (2 * n) (now (masks .entry)) → r ≡ deltaTable s n (now (rows .entry)) q) ⌝ }
+{
+    let m = 2 * n;
+    let mut dx: u64 = 0;
+    let mut dz: u64 = 0;
+    let mut i: usize = 0;
+    while i < m {
+        let mask = masks[i];
+        dz = dz ^ times_bit(x_bit(rows, i, q), mask);
+        dx = dx ^ times_bit(z_bit(rows, i, q), mask);
+        i += 1;
+    }
+    [0, dx, dx ^ dz, dz]
 }

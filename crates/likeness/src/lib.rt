@@ -1,10 +1,12 @@
 // Document 01, point 2: likeness of two entries, each given as its words.
 ghost use mathlib.Core.Path.{_≡_};
+ghost use mathlib.Core.Bool.{true};
 ghost use Prim.Native.Nat.{_+_, _*_, _≤_};
 ghost use lib.ListN.{length, getD};
 ghost use Rattle.model.specs.Floats.{float};
 ghost use Rattle.model.specs.Entries.{Body, entryLen, entryOf, reAt, imAt};
 ghost use Rattle.model.specs.Likeness.{valueAt, nearAt, alike};
+ghost use Rattle.likeness.specs.Rising.{rising, Rises};
 
 // A complex number.
 pub struct Amplitude {
@@ -32,18 +34,70 @@ pub fn value_at(coefs: &[u64], count: usize, index: u64) -> Amplitude
     Amplitude { re: 0.0, im: 0.0 }
 }
 
+// The indices of the first `count` coefficients rise, so none is repeated.
+pub fn indices_rise(coefs: &[u64], count: usize) -> bool
+    requires { ⌜ 3 * count ≤ length (now coefs) ⌝ }
+    ensures { λ r. ⌜ r ≡ rising (now (coefs .entry)) count ⌝ }
+{
+    let mut j = 0;
+    while j + 1 < count {
+        if coefs[3 * j] < coefs[3 * (j + 1)] {
+            j += 1;
+        } else {
+            return false;
+        }
+    }
+    true
+}
+
+// `value_at`, by a short way where the indices rise and coefficient j has the index.
+pub fn value_by(coefs: &[u64], count: usize, index: u64, j: usize, rises: bool) -> Amplitude
+    requires { ⌜ 3 * count ≤ length (now coefs) ⌝ }
+    requires { ⌜ (rises ≡ true → Rises (now coefs) count j) ⌝ }
+    ensures { λ r. ⌜ (r .re ≡ float (valueAt reAt (now (coefs .entry)) index count)) × (r .im ≡ float (valueAt imAt (now (coefs .entry)) index count)) ⌝ }
+{
+    if rises {
+        let at = 3 * j;
+        if coefs[at] == index {
+            return Amplitude {
+                re: words::float_of(coefs[at + 1]),
+                im: words::float_of(coefs[at + 2]),
+            };
+        }
+    }
+    value_at(coefs, count, index)
+}
+
 // Coefficient j of the existing entry, less the other's value at its index, has re² + im² below the limit. Given are the
-// coefficients of both and how many the other has: it is the answer for any two bodies that have these.
+// coefficients of both, how many the other has, and whether its indices are known to rise: it is the answer for any two bodies
+// that have these.
+pub fn near_by(
+    existing: &[u64],
+    other: &[u64],
+    count: usize,
+    j: usize,
+    limit: f64,
+    rises: bool,
+) -> bool
+    requires { ⌜ 3 * j + 3 ≤ length (now existing) ⌝ }
+    requires { ⌜ 3 * count ≤ length (now other) ⌝ }
+    requires { ⌜ (rises ≡ true → Rises (now other) count j) ⌝ }
+    ensures { λ r. ⌜ ((a b : Body) → a .coefs ≡ now (existing .entry) → b .coefs ≡ now (other .entry) → b .count ≡ count → r ≡ nearAt limit a b j) ⌝ }
+{
+    let at = 3 * j;
+    let value = value_by(other, count, existing[at], j, rises);
+    let re = words::float_of(existing[at + 1]) - value.re;
+    let im = words::float_of(existing[at + 2]) - value.im;
+    re * re + im * im < limit
+}
+
+// The same, with nothing known of the indices.
 pub fn near_at(existing: &[u64], other: &[u64], count: usize, j: usize, limit: f64) -> bool
     requires { ⌜ 3 * j + 3 ≤ length (now existing) ⌝ }
     requires { ⌜ 3 * count ≤ length (now other) ⌝ }
     ensures { λ r. ⌜ ((a b : Body) → a .coefs ≡ now (existing .entry) → b .coefs ≡ now (other .entry) → b .count ≡ count → r ≡ nearAt limit a b j) ⌝ }
 {
-    let at = 3 * j;
-    let value = value_at(other, count, existing[at]);
-    let re = words::float_of(existing[at + 1]) - value.re;
-    let im = words::float_of(existing[at + 2]) - value.im;
-    re * re + im * im < limit
+    near_by(existing, other, count, j, limit, false)
 }
 
 // The two entries are alike: equal loss (word 1), coefficient count (word 4) and rows (from word 5 + 3k on), and each

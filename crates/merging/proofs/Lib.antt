@@ -1,1 +1,2 @@
 pub mod Went
+pub mod Changed

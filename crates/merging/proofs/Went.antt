@@ -33,6 +33,14 @@ blind w e = refl
 pub all-there : (s : Size) (count : ℕ) (w : List ℕ) → take count (listed s count w) ≡ listed s count w
 all-there s count w = take-all count (listed s count w) (omega (arith, length-listed s count w))
 
+-- the entries listed after a branch's fate
+pub count-after : (f : Fate) (p : Progress) (k : ℕ) → after f p k .count ≡ countBy f (p .count)
+unfolding after countBy
+count-after Merged p k = refl
+count-after Stored p k = refl
+count-after Dropped p k = refl
+count-after NoRoom p k = refl
+
 module _ (s : Size) (threshold cutoff : Float) where
   -- ---- one branch
 

@@ -5,12 +5,15 @@ use mathlib.Core.Bool.{true, false}
 use mathlib.Core.List.{List, map}
 use lib.Ieee.{Float}
 use lib.ListN.{length, take}
-use Rattle.model.specs.Entries.{Keyed, listed}
+use Rattle.model.specs.Entries.{Keyed, entryLen, wordsOf, stretch, listed}
 use Rattle.model.specs.Keys.{usualSalts}
 use Rattle.model.specs.Store.{Tally, keyedWeighed, reweighed, mergeAll, testedAll, howMany, aboveCutoff}
 use Rattle.model.specs.Calls.{engine}
+use Rattle.model.specs.declared.BranchMutation.{BranchMutation}
 use Rattle.model.specs.declared.Size.{Size}
+use Rattle.model.proofs.Groups.{lent}
 use Rattle.model.proofs.Packed.{Packed}
+use Rattle.branch.proofs.Made.{branchOf}
 use Rattle.store.specs.declared.Fate.{Fate}
 use Rattle.store.specs.declared.Fate.the-variants.{Merged, Stored, Dropped, NoRoom}
 use Rattle.merging.specs.declared.Progress.{Progress}
@@ -53,3 +56,7 @@ after NoRoom p k = record { count = p .count; merged = p .merged; stored = p .st
 -- no branch is merged yet
 abbrev pub started : ℕ → Progress
 started count = record { count = count; merged = 0; stored = 0; dropped = 0; compared = 0; full = false }
+
+-- the store with the branch of the entry at place i made in its first free slot
+abbrev pub appended : Size → (count : ℕ) → BranchMutation → (weight i : ℕ) → List ℕ → List ℕ
+appended s count m weight i w = lent (entryLen s) count w (wordsOf (branchOf s m weight (stretch s w i)))

@@ -2,3 +2,4 @@ pub mod Turns
 pub mod Words
 pub mod Slots
 pub mod Restored
+pub mod Worked

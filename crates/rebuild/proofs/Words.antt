@@ -9,13 +9,11 @@ use lib.ListN.{length, take, drop, getD, set, length-set, length-drop}
 use lib.Seq.{drop-set-lt, take-suc-set, getD-take, getD-drop, length-take-le}
 use Rattle.model.specs.Lists.{groups}
 use Rattle.model.specs.Entries.{headLen, coefsLen, entryLen, entryOf, listed}
-use Rattle.model.specs.Keys.{usualSalts, wordKeyOf, phaseKeyOf, keyed}
 use Rattle.model.specs.Store.{reweighed}
 use Rattle.model.specs.declared.Size.{Size}
 use Rattle.model.proofs.Groups.{groups-add}
-use Rattle.model.proofs.Entries.{bodyOf}
 use Rattle.model.proofs.Packed.{words-entry}
-use Rattle.rebuild.specs.Saved.{Became, rebuiltEntry, wordAt, withWord, withLoss, withWordKey, withPhaseKey}
+use Rattle.rebuild.specs.Saved.{Became, wordAt, withWord, withLoss, withWordKey, withPhaseKey}
 
 -- a word written, which the rows are behind
 put-field : (s : Size) (j v a b c d f : ℕ) (r : List ℕ) → j < 4
@@ -38,20 +36,6 @@ put-entry s j v (a ∷ b ∷ c ∷ d ∷ f ∷ r) l h = put-field s j v a b c d 
 
 pub put : (s : Size) (j v : ℕ) (x : List ℕ) → length x ≡ entryLen s → j < 4 → Became s (withWord j v) x (set x j v)
 put s j v x l h = record { long = length-set x j v ∙ l; entry = put-entry s j v x l h }
-
--- the two keys written
-pub put-keys : (s : Size) (x : List ℕ) (k p : ℕ) → length x ≡ entryLen s → k ≡ wordKeyOf (s .n) (bodyOf s x) → p ≡ phaseKeyOf usualSalts (s .n) (bodyOf s x)
-    → Became s (rebuiltEntry (s .n)) x (set (set x 2 k) 3 p)
-unfolding withWord withWordKey withPhaseKey keyed
-put-keys s x k p l ek ep =
-    let m : length (set x 2 k) ≡ entryLen s = length-set x 2 k ∙ l in
-    record {
-      long = length-set (set x 2 k) 3 p ∙ m;
-      entry =
-          put-entry s 3 p (set x 2 k) m (omega arith)
-          ∙ ap (withWord 3 p) (put-entry s 2 k x l (omega arith))
-          ∙ ap₂ (λ (a b : ℕ). record { entry = entryOf s x .entry; wordKey = a; phaseKey = b }) ek ep;
-    }
 
 -- ---- one word of each entry: `saved` holds those of the first i
 

@@ -3,8 +3,8 @@ use mathlib.Core.Path.{_≡_}
 use mathlib.Core.List.{List, [], _∷_}
 use Prim.Native.Nat.{ℕ, zero, suc}
 use lib.ListN.{length, getD}
-use Rattle.model.specs.Entries.{Keyed, strip, entryLen, wordsOf, entryOf}
-use Rattle.model.specs.Keys.{usualSalts, keyed}
+use Rattle.model.specs.Entries.{Keyed, entryLen, wordsOf, entryOf, stretch}
+use Rattle.model.specs.Keys.{usualSalts, wordKeyOf, phaseKeyOf}
 use Rattle.model.specs.Store.{keyedWeighed, reweighed}
 use Rattle.model.specs.declared.Size.{Size}
 
@@ -28,9 +28,12 @@ withPhaseKey p e = record { entry = e .entry; wordKey = e .wordKey; phaseKey = p
 unfoldable pub withKeyWords : (words phases : List ℕ) → List Keyed → List Keyed
 withKeyWords words phases es = eachBy withPhaseKey phases (eachBy withWordKey words es)
 
--- the keys worked out anew
-abbrev pub rebuiltEntry : ℕ → Keyed → Keyed
-rebuiltEntry n e = keyed usualSalts n (strip e)
+-- the keys worked out anew from the entry at place i of a store
+abbrev pub wordKeyAt : Size → List ℕ → ℕ → ℕ
+wordKeyAt s w i = wordKeyOf (s .n) (entryOf s (stretch s w i) .entry .body)
+
+abbrev pub phaseKeyAt : Size → List ℕ → ℕ → ℕ
+phaseKeyAt s w i = phaseKeyOf usualSalts (s .n) (entryOf s (stretch s w i) .entry .body)
 
 -- ---- by the place of the word: weight 0, loss word 1, word key 2, phase-loss key 3
 

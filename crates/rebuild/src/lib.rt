@@ -1,31 +1,100 @@
 // Keys rebuilt; weights and keys saved, and put back; slots emptied. What a function does, it does to the list of entries.
+use keys::FourKeys;
 use model::Size;
 ghost use mathlib.Core.Path.{_≡_};
 ghost use mathlib.Core.List.{map};
-ghost use Prim.Native.Nat.{ℕ, _<_, _≤_};
+ghost use Prim.Native.Nat.{ℕ, _+_, _*_, _<_, _≤_};
 ghost use lib.ListN.{length, take};
-ghost use Rattle.model.specs.Entries.{entryLen, listed};
+ghost use Rattle.model.specs.Entries.{rowsLen, entryLen, stretch, listed};
+ghost use Rattle.model.specs.Keys.{usualSalts, wordKeyOf, phaseKeyOf};
 ghost use Rattle.model.specs.Store.{keyedWeighed, weightOf};
 ghost use Rattle.model.specs.Calls.{rebuiltEntries};
+ghost use Rattle.model.proofs.Entries.{bodyOf};
 ghost use Rattle.model.proofs.Shape.{Sized};
 ghost use Rattle.model.proofs.Packed.{Packed};
 ghost use Rattle.checks.specs.Sized.{Within};
-ghost use Rattle.rebuild.specs.Saved.{Became, rebuiltEntry, wordAt, withWord, eachBy, withWeights, withKeyWords};
+ghost use Rattle.keys.specs.Tables.{PhaseMasks};
+ghost use Rattle.rebuild.specs.Saved.{Became, wordAt, withWord, wordKeyAt, phaseKeyAt, eachBy, withWeights, withKeyWords};
 
 // ---- keys rebuilt
 
-// The two keys of an entry are worked out from its rows and its loss word, under the usual salts.
-pub fn rebuild_entry(e: &mut [u64], size: Size)
-    requires { ⌜ Within size × (length (now e) ≡ entryLen size) ⌝ }
-    ensures { λ _. ⌜ Became size (rebuiltEntry (size .n)) (now (e .entry)) (now (e .exit)) ⌝ }
+// The rows of entry i.
+pub fn rows_of(store: &[u64], size: Size, i: usize) -> &[u64]
+    requires { ⌜ Within size × (i * entryLen size + entryLen size ≤ length (now store)) ⌝ }
+    ensures { λ r. ⌜ (now r ≡ bodyOf size (stretch size (now (store .entry)) i) .rows) × (length (now r) ≡ rowsLen size) ⌝ }
 {
-    let n = size.n;
+    let len = checks::entry_len(size);
     let rows = 5 + 3 * size.k;
-    let loss = e[1];
-    let word = keys::word_key(&e[rows..], n);
-    let phase = keys::phase_loss_key(keys::usual_salts(), n, &e[rows..], loss);
-    e[2] = word;
-    e[3] = phase;
+    let e = words::stretch(store, len, i);
+    &e[rows..]
+}
+
+// The word key of entry i, worked out from its rows.
+pub fn word_key_at(store: &[u64], size: Size, i: usize) -> u64
+    requires { ⌜ Within size × (i * entryLen size + entryLen size ≤ length (now store)) ⌝ }
+    ensures { λ r. ⌜ r ≡ wordKeyAt size (now (store .entry)) i ⌝ }
+{
+    keys::word_key(rows_of(store, size, i), size.n)
+}
+
+// The word keys of entries i to i + 3.
+pub fn four_at(store: &[u64], size: Size, i: usize) -> FourKeys
+    requires { ⌜ Within size × ((i + 4) * entryLen size ≤ length (now store)) ⌝ }
+    ensures { λ r. ⌜ (r .a ≡ wordKeyAt size (now (store .entry)) i) × (r .b ≡ wordKeyAt size (now (store .entry)) (i + 1)) × (r .c ≡ wordKeyAt size (now (store .entry)) (i + 2)) × (r .d ≡ wordKeyAt size (now (store .entry)) (i + 3)) ⌝ }
+{
+    let a = rows_of(store, size, i);
+    let b = rows_of(store, size, i + 1);
+    let c = rows_of(store, size, i + 2);
+    let d = rows_of(store, size, i + 3);
+    keys::four_word_keys(a, b, c, d, size.n)
+}
+
+// Every entry's word key: four at once, while four are left.
+pub fn word_keys(store: &[u64], size: Size, count: usize) -> [u64; 256]
+    requires { ⌜ Packed size count (now store) ⌝ }
+    ensures { λ r. ⌜ (length r ≡ 256) × (take count r ≡ map (λ e. wordKeyOf (size .n) (e .entry .body)) (listed size count (now (store .entry)))) ⌝ }
+{
+    let mut found = [0u64; 256];
+    let mut i: usize = 0;
+    while i + 4 <= count {
+        let four = four_at(store, size, i);
+        found[i] = four.a;
+        found[i + 1] = four.b;
+        found[i + 2] = four.c;
+        found[i + 3] = four.d;
+        i += 4;
+    }
+    while i < count {
+        found[i] = word_key_at(store, size, i);
+        i += 1;
+    }
+    found
+}
+
+// The phase-loss key of entry i, worked out from its rows and its loss word, under the usual salts.
+pub fn phase_key_at(table: &[u64; 512], store: &[u64], size: Size, i: usize) -> u64
+    requires { ⌜ PhaseMasks usualSalts (2 * size .n) (now table) × Within size × (i * entryLen size + entryLen size ≤ length (now store)) ⌝ }
+    ensures { λ r. ⌜ r ≡ phaseKeyAt size (now (store .entry)) i ⌝ }
+{
+    let len = checks::entry_len(size);
+    let loss = store[i * len + 1];
+    let rows = rows_of(store, size, i);
+    keys::phase_loss_key_from(keys::usual_salts(), table, size.n, rows, loss)
+}
+
+// Every entry's phase-loss key.
+pub fn phase_keys(store: &[u64], size: Size, count: usize) -> [u64; 256]
+    requires { ⌜ Packed size count (now store) ⌝ }
+    ensures { λ r. ⌜ (length r ≡ 256) × (take count r ≡ map (λ e. phaseKeyOf usualSalts (size .n) (e .entry .body)) (listed size count (now (store .entry)))) ⌝ }
+{
+    let table = keys::phase_masks(keys::usual_salts(), 2 * size.n);
+    let mut found = [0u64; 256];
+    let mut i: usize = 0;
+    while i < count {
+        found[i] = phase_key_at(&table, store, size, i);
+        i += 1;
+    }
+    found
 }
 
 // Every entry's keys.
@@ -33,14 +102,9 @@ pub fn rebuild_keys(store: &mut [u64], size: Size, count: usize)
     requires { ⌜ Packed size count (now store) ⌝ }
     ensures { λ _. ⌜ Packed size count (now (store .exit)) × (listed size count (now (store .exit)) ≡ rebuiltEntries (size .n) (listed size count (now (store .entry)))) ⌝ }
 {
-    let len = checks::entry_len(size);
-    let mut place = 0;
-    while place < count {
-        let at = place * len;
-        let end = at + len;
-        rebuild_entry(&mut store[at..end], size);
-        place += 1;
-    }
+    let words = word_keys(store, size, count);
+    let phases = phase_keys(store, size, count);
+    restore_keys(store, size, count, &words, &phases);
 }
 
 // ---- words saved

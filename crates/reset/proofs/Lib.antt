@@ -1,8 +1,5 @@
-pub mod Exchange
-pub mod Departure
-pub mod Reversal
-pub mod Slots
-pub mod FirstSlots
-pub mod Return
+pub mod Brings
 pub mod Coefficients
 pub mod Leaves
+pub mod Returning
+pub mod Revived

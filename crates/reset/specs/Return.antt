@@ -1,22 +1,33 @@
--- Entries that left become live and are merged, each from a slot that is emptied first. Assumes nothing.
-use Prim.Native.Nat.{ℕ, _+_, _*_, _≤_}
+-- Entries that left come back: each becomes live where it stands and is merged into the list, which is given by the places of its entries.
+-- Assumes nothing.
+use Prim.Native.Nat.{ℕ, _≤_, _<_}
 use mathlib.Core.Path.{_≡_}
-use mathlib.Core.Bool.{true, false}
-use mathlib.Core.List.{List}
+use mathlib.Core.Bool.{Bool}
+use mathlib.Core.List.{List, map}
+use lib.Dec.{leb}
 use lib.Ieee.{Float}
-use lib.ListN.{length, take, drop}
-use Rattle.model.specs.Entries.{Keyed, entryLen, entryOf, stretch, listed}
-use Rattle.model.specs.Numbers.{allZero}
+use lib.ListN.{length, getD}
+use Rattle.model.specs.Lists.{every}
+use Rattle.model.specs.Entries.{Keyed, entryOf, stretch}
 use Rattle.model.specs.Keys.{usualSalts}
 use Rattle.model.specs.Changes.{changedKeyed}
-use Rattle.model.specs.Store.{begun, walk, merge, mergeAll, testedAll, howMany, aboveCutoff}
+use Rattle.model.specs.Store.{Tally, begun, walk, merge, mergeAll, testedAll, howMany, aboveCutoff}
 use Rattle.model.specs.Calls.{Lent, Left, engine, reset, branching, sumOf, rebuilt, act, left}
 use Rattle.model.specs.declared.BranchMutation.the-variants.{Loss as loss}
 use Rattle.model.specs.declared.Size.{Size}
-use Rattle.model.proofs.Shape.{Sized}
 use Rattle.model.proofs.Packed.{Packed}
-use Rattle.merging.specs.Progress.{tallyOf, Light}
+use Rattle.places.specs.Leaving.{leaving}
+use Rattle.places.specs.Places.{picked, Distinct}
+use Rattle.store.specs.Branch.{countBy, tallyBy}
+use Rattle.store.specs.declared.Fate.the-variants.{NoRoom}
+use Rattle.store.specs.declared.Settled.{Settled}
+use Rattle.seeking.specs.Noted.{seenAt, Noted}
+use Rattle.merging.specs.Progress.{tallyOf}
 use Rattle.merging.specs.declared.Progress.{Progress}
+
+-- no entry has more coefficients than K
+abbrev pub fewCoefficients : Size → List Keyed → Bool
+fewCoefficients s es = every (λ e. leb (e .entry .body .count) (s .k)) es
 
 -- an entry that was lost at q, live again
 abbrev pub live : Size → ℕ → Keyed → Keyed
@@ -26,28 +37,42 @@ live s q e = changedKeyed usualSalts (s .n) (loss q) e
 abbrev pub liveAt : Size → ℕ → List ℕ → ℕ → Keyed
 liveAt s q w i = live s q (entryOf s (stretch s w i))
 
--- All below place i are merged: p counts the entries listed, and the words from these up to slot i are 0
-pub record Open (s : Size) (i : ℕ) (p : Progress) (w : List ℕ) : Type 0 where
-  pub sized : Sized s (length w)
-  pub within : i ≤ s .capacity
-  pub below : p .count ≤ i
-  pub gap : allZero (drop (p .count * entryLen s) (take (i * entryLen s) w)) ≡ true
-  pub room : p .full ≡ false
-  pub light : Light i p
+-- The branch b, the live form of the entry at place i, was merged into the `count` entries at the places of `order`, of `total` in the store w.
+pub record Returned (s : Size) (total count : ℕ) (threshold cutoff : Float) (i : ℕ) (b : Keyed) (order w order′ w′ keys firsts : List ℕ) (r : Settled) : Type 0 where
+  pub packed : Packed s total w′
+  pub long : length order′ ≡ 256
+  pub once : Distinct total (countBy (r .fate) count) order′
+  pub noted : Noted (countBy (r .fate) count) (seenAt s order′ w′) keys firsts
+  -- there is always room
+  pub roomy : r .fate ≡ NoRoom → ⊥
+  pub tested : r .compared ≡ length (walk s threshold b 0 (picked s count order w) .tested)
+  pub tally : merge (engine s threshold) (aboveCutoff cutoff) b (begun (picked s count order w)) ≡ tallyBy (r .fate) b (picked s (countBy (r .fate) count) order′ w′)
+  -- an entry that was not listed, and is not the one that came back, is as it was and is not listed
+  pub others : (k : ℕ) → k < total → (k ≡ i → ⊥) → ((u : ℕ) → u < count → getD order u 0 ≡ k → ⊥)
+      → (entryOf s (stretch s w′ k) ≡ entryOf s (stretch s w k)) × ((u : ℕ) → u < countBy (r .fate) count → getD order′ u 0 ≡ k → ⊥)
 
--- The branch b, which stood at place i, is merged: p and w became p' and w'
-pub record Back (s : Size) (threshold cutoff : Float) (i : ℕ) (b : Keyed) (p : Progress) (w : List ℕ) (p' : Progress) (w' : List ℕ) : Type 0 where
-  pub opened : Open s (i + 1) p' w'
-  -- the slots past i are as they were
-  pub rest : drop ((i + 1) * entryLen s) w' ≡ drop ((i + 1) * entryLen s) w
-  pub tally : tallyOf s p' w' ≡ merge (engine s threshold) (aboveCutoff cutoff) b (tallyOf s p w)
-  pub compared : p' .compared ≡ p .compared + length (walk s threshold b 0 (listed s (p .count) w) .tested)
+-- the list so far, and what became of the branches
+abbrev pub tallyOn : Size → Progress → (order w : List ℕ) → Tally Keyed
+tallyOn s p order w = record { entries = picked s (p .count) order w; merged = p .merged; stored = p .stored; dropped = p .dropped }
 
--- The branches bs are merged into the entries es, which left p and w
+-- The branches bs are merged into the entries es, which left p: its entries stand at the places of `order`, of `total` in the store w.
+pub record Brought (s : Size) (total : ℕ) (threshold cutoff : Float) (es bs : List Keyed) (p : Progress) (order w : List ℕ) : Type 0 where
+  pub packed : Packed s total w
+  pub within : p .count ≤ total
+  pub long : length order ≡ 256
+  pub once : Distinct total (p .count) order
+  pub tally : tallyOn s p order w ≡ mergeAll (engine s threshold) (aboveCutoff cutoff) bs (begun es)
+  pub compared : p .compared ≡ howMany (testedAll usualSalts s threshold (aboveCutoff cutoff) bs (begun es))
+
+-- The branches bs are merged into the entries es, which left p and the store w.
 pub record Merged (s : Size) (threshold cutoff : Float) (es bs : List Keyed) (p : Progress) (w : List ℕ) : Type 0 where
   pub packed : Packed s (p .count) w
   pub tally : tallyOf s p w ≡ mergeAll (engine s threshold) (aboveCutoff cutoff) bs (begun es)
   pub compared : p .compared ≡ howMany (testedAll usualSalts s threshold (aboveCutoff cutoff) bs (begun es))
+
+-- the branches of the entries es that are lost at q: these, live
+abbrev pub lostOf : Size → ℕ → List Keyed → List Keyed
+lostOf s q es = map (live s q) (leaving q es .branches)
 
 -- what the definition of the reset leaves, once no test applies
 abbrev pub resetBy : ℕ → Lent → Left

@@ -1,146 +1,142 @@
-// Lost entries leave, become live and are merged: document 01, point 6.
+// Lost entries leave, become live and are merged: document 01, point 6. They stay where they stand while they are merged: the list is given
+// by the places of its entries, and the store is put into its order at the end.
 use merging::Progress;
 use model::Answer;
 use model::BranchMutation;
 use model::Counts;
+use model::Found;
 use model::Header;
 use model::Size;
+use store::Fate;
+use store::Settled;
 ghost use mathlib.Core.Path.{_≡_};
 ghost use mathlib.Core.Bool.{true, cond};
-ghost use mathlib.Core.List.{[], _++_, map, reverse};
-ghost use Prim.Native.Nat.{_+_, _*_, _<_, _≤_};
-ghost use lib.ListN.{length, take, drop, replicate};
-ghost use Rattle.model.specs.Entries.{entryLen, entryOf, stretch, wordsOf, listed};
+ghost use mathlib.Core.List.{map};
+ghost use Prim.Native.Nat.{ℕ, _+_, _*_, _-_, _<_, _≤_};
+ghost use lib.ListN.{length, getD, set};
+ghost use Rattle.model.specs.Entries.{entryLen, entryOf, stretch, listed};
+ghost use Rattle.model.specs.Keys.{storedKey};
+ghost use Rattle.model.specs.Store.{keyedWeighed, gained};
 ghost use Rattle.model.specs.Calls as Calls;
-ghost use Rattle.model.proofs.Shape.{Sized};
-ghost use Rattle.model.proofs.Groups.{lent};
 ghost use Rattle.model.proofs.Packed.{Packed};
-ghost use Rattle.reset.specs.Leaving.{exchanged, leaving, Parted, fewCoefficients};
-ghost use Rattle.reset.specs.Return.{live, liveAt, Open, Back, Merged, resetBy};
+ghost use Rattle.checks.specs.Sized.{Within};
+ghost use Rattle.places.specs.Leaving.{leaving};
+ghost use Rattle.places.specs.Places.{picked, Distinct, Apart};
+ghost use Rattle.seeking.specs.Noted.{seenAt, Noted};
+ghost use Rattle.reset.specs.Return.{fewCoefficients, live, liveAt, lostOf, Returned, Brought, Merged, resetBy};
 
-// ---- entries leave
+// ---- one of them comes back
 
-// Two entries change places.
-pub fn swap_entries(store: &mut [u64], size: Size, count: usize, a: usize, b: usize)
-    requires { ⌜ Packed size count (now store) × (a < b) × (b < count) ⌝ }
-    ensures { λ _. ⌜ Packed size count (now (store .exit)) × (listed size count (now (store .exit)) ≡ exchanged (entryOf size []) a b (listed size count (now (store .entry)))) ⌝ }
+// The full key of the entry at place i, once it is live again at q.
+pub fn live_key(store: &[u64], size: Size, i: usize, q: usize) -> u64
+    requires { ⌜ Within size × (i * entryLen size + entryLen size ≤ length (now store)) ⌝ }
+    ensures { λ r. ⌜ r ≡ storedKey (liveAt size q (now (store .entry)) i) ⌝ }
+{
+    let e = store::entry(store, size, i);
+    e[2] ^ e[3] ^ keys::loss_mask(keys::usual_salts(), q)
+}
+
+// The entry at place i becomes live.
+pub fn revive(store: &mut [u64], size: Size, total: usize, i: usize, q: usize)
+    requires { ⌜ Packed size total (now store) × (i < total) × (q < 64) ⌝ }
+    ensures { λ _. ⌜ Packed size total (now (store .exit)) × (listed size total (now (store .exit)) ≡ set (listed size total (now (store .entry))) i (liveAt size q (now (store .entry)) i)) ⌝ }
 {
     let len = checks::entry_len(size);
-    let at = a * len;
-    let bt = b * len;
-    let mut k = 0;
-    while k < len {
-        let x = store[at + k];
-        store[at + k] = store[bt + k];
-        store[bt + k] = x;
-        k += 1;
-    }
-}
-
-// The entries lost at q leave by `swap_remove`, from the highest place down. They stand past those that stay, the last that left
-// first. How many stay is the answer.
-pub fn drain(store: &mut [u64], size: Size, count: usize, q: usize) -> usize
-    requires { ⌜ Packed size count (now store) × (q < 64) ⌝ }
-    ensures { λ r. ⌜ Parted size count r (leaving q (listed size count (now (store .entry))) .stay) (reverse (leaving q (listed size count (now (store .entry))) .branches)) (now (store .exit)) ⌝ }
-{
-    let len = checks::entry_len(size);
-    let mut stay = count;
-    let mut i = count;
-    while 0 < i {
-        i -= 1;
-        if (store[i * len + 1] >> q) % 2 == 1 {
-            stay -= 1;
-            if i < stay {
-                swap_entries(store, size, count, i, stay);
-            }
-        }
-    }
-    stay
-}
-
-// The entries from place `from` on, in reverse order.
-pub fn reverse_entries(store: &mut [u64], size: Size, count: usize, from: usize)
-    requires { ⌜ Packed size count (now store) × (from ≤ count) ⌝ }
-    ensures { λ _. ⌜ Packed size count (now (store .exit)) × (listed size count (now (store .exit)) ≡ take from (listed size count (now (store .entry))) ++ reverse (drop from (listed size count (now (store .entry))))) ⌝ }
-{
-    let mut a = from;
-    let mut b = count;
-    while a + 1 < b {
-        b -= 1;
-        swap_entries(store, size, count, a, b);
-        a += 1;
-    }
-}
-
-// The entries lost at q stand past those that stay, in the order in which they leave. How many stay is the answer.
-pub fn part_lost(store: &mut [u64], size: Size, count: usize, q: usize) -> usize
-    requires { ⌜ Packed size count (now store) × (q < 64) ⌝ }
-    ensures { λ r. ⌜ Parted size count r (leaving q (listed size count (now (store .entry))) .stay) (leaving q (listed size count (now (store .entry))) .branches) (now (store .exit)) ⌝ }
-{
-    let stay = drain(store, size, count, q);
-    reverse_entries(store, size, count, stay);
-    stay
-}
-
-// ---- and come back
-
-// The entry at place i becomes live in `scratch`, and its slot is emptied.
-pub fn take_out(store: &mut [u64], scratch: &mut [u64], size: Size, i: usize, q: usize)
-    requires { ⌜ Sized size (length (now store)) × (i < size .capacity) × (length (now scratch) ≡ entryLen size) × (q < 64) ⌝ }
-    ensures { λ _. ⌜ (now (scratch .exit) ≡ wordsOf (liveAt size q (now (store .entry)) i)) × (now (store .exit) ≡ lent (entryLen size) i (now (store .entry)) (replicate (entryLen size) 0)) ⌝ }
-{
-    let len = checks::entry_len(size);
-    let rows = 5 + 3 * size.k;
     let at = i * len;
     let end = at + len;
-    let m = BranchMutation::Loss(q);
-    words::copy_words(&mut scratch[..], &store[at..end]);
-    let delta = keys::mutation_delta(keys::usual_salts(), size.n, &scratch[rows..], m);
-    branch::change_entry(&mut scratch[..], size, m, delta);
-    words::clear(&mut store[at..end]);
+    let delta = keys::loss_mask(keys::usual_salts(), q);
+    branch::change_entry(&mut store[at..end], size, BranchMutation::Loss(q), delta);
 }
 
-// The entry at place i, which left, becomes live and is merged into the first `p.count`. Its slot is emptied first: the slots up to
-// and with i are a store of their own.
-pub fn merge_back(
+// The weight of the entry at place `to` gains that of the entry at place `from`.
+pub fn gain(store: &mut [u64], size: Size, total: usize, to: usize, from: usize)
+    requires { ⌜ Packed size total (now store) × (to < total) × (from < total) ⌝ }
+    ensures { λ _. ⌜ Packed size total (now (store .exit)) × (listed size total (now (store .exit)) ≡ set (listed size total (now (store .entry))) to (gained keyedWeighed (entryOf size (stretch size (now (store .entry)) from)) (entryOf size (stretch size (now (store .entry)) to)))) ⌝ }
+{
+    let len = checks::entry_len(size);
+    let at = to * len;
+    store[at] = words::bits_of(words::float_of(store[at]) + words::float_of(store[from * len]));
+}
+
+// The entry at place i, which left, is merged into the list of the `count` entries at the places of `order`. Where one is alike, its weight gains the
+// entry's, cutoff or not; otherwise the entry is appended, live, if its weight is above the cutoff, else dropped.
+pub fn bring_back(
     store: &mut [u64],
-    scratch: &mut [u64],
+    order: &mut [usize; 256],
+    keys: &mut [u64; 256],
+    firsts: &mut [u8; 4096],
     size: Size,
+    total: usize,
+    count: usize,
     threshold: f64,
     cutoff: f64,
     i: usize,
     q: usize,
-    p: Progress,
-) -> Progress
-    requires { ⌜ Open size i p (now store) × (i < size .capacity) × (entryOf size (stretch size (now store) i) .entry .body .count ≤ size .k) ⌝ }
-    requires { ⌜ (length (now scratch) ≡ entryLen size) × (q < 64) ⌝ }
-    ensures { λ r. ⌜ (length (now (scratch .exit)) ≡ entryLen size) × Back size threshold cutoff i (liveAt size q (now (store .entry)) i) p (now (store .entry)) r (now (store .exit)) ⌝ }
+) -> Settled
+    requires { ⌜ Packed size total (now store) × (length (now order) ≡ 256) × Distinct total count (now order) × Noted count (seenAt size (now order) (now store)) (now keys) (now firsts) × (count < total) × (i < total) × ((u : ℕ) → u < count → getD (now order) u 0 ≡ i → ⊥) ⌝ }
+    requires { ⌜ (entryOf size (stretch size (now store) i) .entry .body .count ≤ size .k) × (q < 64) ⌝ }
+    ensures { λ r. ⌜ Returned size total count threshold cutoff i (liveAt size q (now (store .entry)) i) (now (order .entry)) (now (store .entry)) (now (order .exit)) (now (store .exit)) (now (keys .exit)) (now (firsts .exit)) r ⌝ }
 {
-    let end = (i + 1) * checks::entry_len(size);
-    take_out(store, scratch, size, i, q);
-    let part = Size {
-        n: size.n,
-        k: size.k,
-        capacity: i + 1,
+    let key = live_key(store, size, i, q);
+    let m = BranchMutation::Loss(q);
+    let search = seeking::seek(
+        &store[..],
+        &order[..],
+        keys,
+        firsts,
+        size,
+        count,
+        threshold,
+        i,
+        m,
+        key,
+    );
+    let found = search.found;
+    let compared = search.compared;
+    let Found::At(v) = found else {
+        if words::float_of(store[i * checks::entry_len(size)]) > cutoff {
+            revive(store, size, total, i, q);
+            order[count] = i;
+            seeking::note(keys, firsts, count, key);
+            return Settled {
+                fate: Fate::Stored,
+                compared,
+            };
+        }
+        return Settled {
+            fate: Fate::Dropped,
+            compared,
+        };
     };
-    merging::merge_branch(&mut store[..end], part, threshold, cutoff, p, scratch)
+    let to = order[v];
+    gain(store, size, total, to, i);
+    Settled {
+        fate: Fate::Merged,
+        compared,
+    }
 }
 
-// Those from place `stay` on, in order.
-pub fn merge_all_back(
+// ---- all of them
+
+// The entries at the places of `left` come back, in that order. Those that stayed, `stay` of them, stand at the places of `order`.
+pub fn bring_all_back(
     store: &mut [u64],
+    order: &mut [usize; 256],
+    left: &[usize; 256],
     size: Size,
+    total: usize,
     threshold: f64,
     cutoff: f64,
     stay: usize,
-    count: usize,
     q: usize,
 ) -> Progress
-    requires { ⌜ Packed size count (now store) × (stay ≤ count) × (fewCoefficients size (listed size count (now store)) ≡ true) × (q < 64) ⌝ }
-    ensures { λ r. ⌜ Merged size threshold cutoff (take stay (listed size count (now (store .entry)))) (map (live size q) (drop stay (listed size count (now (store .entry))))) r (now (store .exit)) ⌝ }
+    requires { ⌜ Packed size total (now store) × (stay ≤ total) × (length (now order) ≡ 256) × (length (now left) ≡ 256) × Distinct total stay (now order) × Distinct total (total - stay) (now left) × Apart stay 0 (total - stay) (now order) (now left) ⌝ }
+    requires { ⌜ (fewCoefficients size (listed size total (now store)) ≡ true) × (q < 64) ⌝ }
+    ensures { λ r. ⌜ Brought size total threshold cutoff (picked size stay (now (order .entry)) (now (store .entry))) (map (live size q) (picked size (total - stay) (now (left .entry)) (now (store .entry)))) r (now (order .exit)) (now (store .exit)) ⌝ }
 {
-    let len = checks::entry_len(size);
-    let mut scratch = [0u64; 581];
+    let mut keys = [0u64; 256];
+    let mut firsts = [255u8; 4096];
+    seeking::note_all(&mut keys, &mut firsts, store, &order[..], size, stay);
     let mut p = Progress {
         count: stay,
         merged: 0,
@@ -149,11 +145,56 @@ pub fn merge_all_back(
         compared: 0,
         full: false,
     };
-    let mut i = stay;
-    while i < count {
-        p = merge_back(store, &mut scratch[..len], size, threshold, cutoff, i, q, p);
-        i += 1;
+    let out = total - stay;
+    let mut j = 0;
+    while j < out {
+        let i = left[j];
+        let settled = bring_back(
+            store,
+            order,
+            &mut keys,
+            &mut firsts,
+            size,
+            total,
+            p.count,
+            threshold,
+            cutoff,
+            i,
+            q,
+        );
+        p = merging::counted(p, settled);
+        j += 1;
     }
+    p
+}
+
+// The entries lost at q leave, and are merged in that order. The store lists what comes of it.
+pub fn merge_lost(
+    store: &mut [u64],
+    size: Size,
+    count: usize,
+    threshold: f64,
+    cutoff: f64,
+    q: usize,
+) -> Progress
+    requires { ⌜ Packed size count (now store) × (fewCoefficients size (listed size count (now store)) ≡ true) × (q < 64) ⌝ }
+    ensures { λ r. ⌜ Merged size threshold cutoff (leaving q (listed size count (now (store .entry))) .stay) (lostOf size q (listed size count (now (store .entry)))) r (now (store .exit)) ⌝ }
+{
+    let mut order = places::own_places(count);
+    let mut left = [0usize; 256];
+    let stay = places::leave(store, size, count, q, &mut order, &mut left);
+    let p = bring_all_back(
+        store,
+        &mut order,
+        &left,
+        size,
+        count,
+        threshold,
+        cutoff,
+        stay,
+        q,
+    );
+    places::arrange(store, size, count, &mut order, p.count);
     p
 }
 
@@ -177,8 +218,7 @@ pub fn run(h: Header, store: &mut [u64], q: usize) -> Answer
     let size = h.size;
     let count = h.count;
     ready(store, size, count, h.dirty);
-    let stay = part_lost(store, size, count, q);
-    let p = merge_all_back(store, size, h.threshold, h.cutoff, stay, count, q);
+    let p = merge_lost(store, size, count, h.threshold, h.cutoff, q);
     Answer {
         number: 0,
         header: Header {

@@ -1,4 +1,3 @@
-pub mod From
 pub mod Parents
 pub mod Scaled
 pub mod Split

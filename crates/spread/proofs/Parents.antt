@@ -1,25 +1,28 @@
 -- The branches of one parent: merging changes only weights, so a parent goes on giving the branches that it gave at first. Assumes nothing.
-use mathlib.Core.Path.{_≡_, refl, sym, ap, _∙_}
+use mathlib.Core.Path.{_≡_, refl, sym, ap, ap₂, _∙_}
 use mathlib.Core.Bool.{Bool, true, false, cond, true≢false}
 use mathlib.Core.List.{List, [], _∷_, _++_, map, map-append}
-use Prim.Native.Nat.{ℕ, zero, suc, _+_, _*_, _≤_, _<_}
+use Prim.Native.Nat.{ℕ, zero, suc, _+_, _*_, _-_, _≤_, _<_}
 use native.Mathlib.Nat.{le-refl}
 use native.Mathlib.Numerals.{add-one}
 use native.Mathlib.Omega.{arith}
 use lib.Ieee.{Float, nan}
-use lib.ListN.{length, take, getD, length-append, length-map, List·getD-map}
+use lib.ListN.{length, take, drop, getD, length-drop, length-append, length-map, List·getD-map}
 use lib.Seq.{getD-take}
 use Rattle.model.specs.Floats.{float, bits, times}
-use Rattle.model.specs.Entries.{Keyed, entryOf, stretch, listed}
+use Rattle.model.specs.Entries.{Keyed, headLen, coefsLen, rowsLen, entryLen, entryOf, stretch, listed}
 use Rattle.model.specs.Keys.{usualSalts}
-use Rattle.model.specs.Changes.{changedKeyed, changedEntry}
+use Rattle.model.specs.Changes.{masksOf, changedKeyed, changedEntry}
 use Rattle.model.specs.Store.{keyedWeighed, reweighed, mergeAll, testedAll, howMany}
 use Rattle.model.specs.Channels.{branchOf}
 use Rattle.model.specs.Calls.{engine}
 use Rattle.model.specs.declared.BranchMutation.{BranchMutation}
 use Rattle.model.specs.declared.Size.{Size}
-use Rattle.model.proofs.Entries.{listed-at}
-use Rattle.model.proofs.Packed.{Packed}
+use Rattle.model.proofs.Groups.{stride-le}
+use Rattle.model.proofs.Entries.{listed-at, part-tail}
+use Rattle.model.proofs.Packed.{Packed, within}
+use Rattle.deltas.specs.Tables.{firstTable, secondTable, deltaAt}
+use Rattle.deltas.proofs.Masks.{delta-masks}
 use Rattle.arms.specs.Arms.{mutationAt, armAt, armsBelow, ShapeBelow}
 use Rattle.arms.specs.declared.Arms.{Arms}
 use Rattle.arms.specs.declared.Shape.{Shape}
@@ -49,6 +52,22 @@ module _ (n v : ℕ) (m : BranchMutation) where
 pub same-count : (e x : Keyed) → unweighed e ≡ unweighed x → e .entry .body .count ≡ x .entry .body .count
 unfolding reweighed
 same-count e x h = ap (λ (y : Keyed). y .entry .body .count) h
+
+same-rows : (e x : Keyed) → unweighed e ≡ unweighed x → e .entry .body .rows ≡ x .entry .body .rows
+unfolding reweighed
+same-rows e x h = ap (λ (y : Keyed). y .entry .body .rows) h
+
+-- the rows of a parent, as they are lent
+pub rows-lent : (s : Size) (parent e : List ℕ) → parent ≡ e → take (length parent - (headLen + coefsLen s)) (drop (headLen + coefsLen s) parent) ≡ entryOf s e .entry .body .rows
+unfolding entryOf
+rows-lent s parent e h = part-tail (headLen + coefsLen s) parent ∙ ap (drop (headLen + coefsLen s)) h
+
+pub rows-long : (s : Size) (parent : List ℕ) → length parent ≡ entryLen s → length (take (length parent - (headLen + coefsLen s)) (drop (headLen + coefsLen s) parent)) ≡ rowsLen s
+rows-long s parent h = ap length (part-tail (headLen + coefsLen s) parent) ∙ length-drop (headLen + coefsLen s) parent ∙ (omega arith)
+
+-- a listed entry lies in the store
+pub inside : (s : Size) (count i : ℕ) (w : List ℕ) → Packed s count w → i < count → i * entryLen s + entryLen s ≤ length w
+inside s count i w g h = omega (arith, stride-le (entryLen s) i count h, within s count w g)
 
 again : (old : ℕ) (e : Keyed) → unweighed e ≡ unweighed (reweighed keyedWeighed old e)
 unfolding reweighed
@@ -122,6 +141,15 @@ module _ (s : Size) (threshold cutoff : Float) where
     branch-merged a q q' v v' {weight} {m} {b} f c e t g =
         let e' : b ≡ bits (times (float old) (getD (r .rates) a nan)) = e ∙ ap (λ (x : Float). bits (times x (getD (r .rates) a nan))) f in
         next-branch a q q' v v' t (rw (sym c, sym e') g)
+
+    -- the tables of the parent as it was give what a branch changes now
+    pub delta-now : (a : ℕ) (q : Progress) (v : List ℕ) {first second : List ℕ} {m : BranchMutation} {d : ℕ} → a < 15 → Sofar a q v
+        → first ≡ firstTable (r .shape) (s .n) (entryOf s (stretch s w i) .entry .body .rows) → second ≡ secondTable (r .shape) (s .n) (entryOf s (stretch s w i) .entry .body .rows)
+        → m ≡ mutationAt (r .shape) a → d ≡ deltaAt first second a → d ≡ masksOf usualSalts (s .n) m (entryOf s (stretch s v i) .entry .body .rows)
+    delta-now a q v {first} {second} {m} {d} b t f g e k =
+        let rows = entryOf s (stretch s w i) .entry .body .rows in
+        k ∙ ap₂ (λ (x y : List ℕ). deltaAt x y a) f g ∙ delta-masks (r .shape) (s .n) rows a b
+        ∙ ap₂ (masksOf usualSalts (s .n)) (sym e) (sym (same-rows (entryOf s (stretch s v i)) (entryOf s (stretch s w i)) (still-there i h t)))
 
     pub light : (a : ℕ) (q : Progress) (v : List ℕ) → Light (15 * i) p → a ≤ 15 → i < 256 → Sofar a q v → Light 65536 q
     light a q v l b k t =

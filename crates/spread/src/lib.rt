@@ -2,77 +2,69 @@
 use arms::Arms;
 use arms::Shape;
 use merging::Progress;
-use model::BranchMutation;
 use model::Size;
 ghost use mathlib.Core.Path.{_≡_};
-ghost use mathlib.Core.List.{[], _∷_, map};
+ghost use mathlib.Core.List.{[], map};
 ghost use Prim.Native.Nat.{_*_, _<_, _≤_};
 ghost use lib.ListN.{length, take};
-ghost use Rattle.model.specs.Lists.{every};
-ghost use Rattle.model.specs.Numbers.{rates};
 ghost use Rattle.model.specs.Entries.{entryLen, entryOf, stretch, listed};
 ghost use Rattle.model.specs.Keys.{usualSalts};
-ghost use Rattle.model.specs.Changes.{changedKeyed};
-ghost use Rattle.model.specs.Store.{keyedWeighed, weightOf, reweighed};
-ghost use Rattle.model.specs.Channels as Channels;
-ghost use Rattle.model.specs.Calls as Calls;
-ghost use Rattle.model.specs.Qubits.{QubitsBelow};
+ghost use Rattle.model.specs.Store.{keyedWeighed, weightOf};
 ghost use Rattle.model.proofs.Packed.{Packed};
 ghost use Rattle.rebuild.specs.Saved.{Became};
 ghost use Rattle.arms.specs.Arms.{ShapeBelow};
+ghost use Rattle.keys.specs.Deltas.{SignMasks};
+ghost use Rattle.deltas.specs.Tables.{walkedRows};
+ghost use Rattle.seeking.specs.Noted.{seenAt, Noted};
 ghost use Rattle.spread.specs.Spread.{Spread};
 ghost use Rattle.merging.specs.Progress.{Went, Light, started};
 ghost use Rattle.spread.specs.Branches.{parentAt, branchesBelow, liveAt, scaledBy, branchesUpTo, FewCoefficients};
 
-// The branch of the parent at place i, with this weight, merged. It is made in `scratch`.
-pub fn branch_from(
-    store: &mut [u64],
-    scratch: &mut [u64],
-    size: Size,
-    threshold: f64,
-    cutoff: f64,
-    i: usize,
-    m: BranchMutation,
-    weight: u64,
-    p: Progress,
-) -> Progress
-    requires { ⌜ Packed size (p .count) (now store) × (i < p .count) × (entryOf size (stretch size (now store) i) .entry .body .count ≤ size .k) ⌝ }
-    requires { ⌜ (length (now scratch) ≡ entryLen size) × QubitsBelow 64 m × Light 65536 p ⌝ }
-    ensures { λ r. ⌜ (length (now (scratch .exit)) ≡ entryLen size) × Went size threshold cutoff (reweighed keyedWeighed weight (changedKeyed usualSalts (size .n) m (entryOf size (stretch size (now (store .entry)) i))) ∷ []) p (now (store .entry)) r (now (store .exit)) ⌝ }
-{
-    let rows = 5 + 3 * size.k;
-    let parent = store::entry(store, size, i);
-    let delta = keys::mutation_delta(keys::usual_salts(), size.n, &parent[rows..], m);
-    branch::make_branch(&mut scratch[..], parent, size, m, weight, delta);
-    merging::merge_branch(store, size, threshold, cutoff, p, scratch)
-}
-
-// The branches of the parent at place i, in order, merged. `old` is the weight it had before it was scaled.
+// The branches of the parent at place i, in order, merged. `old` is the weight it had before it was scaled. Its rows are walked once for
+// each qubit; what a branch changes of the key is then two words of a table.
 pub fn merge_arms(
     store: &mut [u64],
-    scratch: &mut [u64],
+    keys: &mut [u64; 256],
+    firsts: &mut [u8; 4096],
+    masks: &[u64; 128],
     size: Size,
     threshold: f64,
     cutoff: f64,
-    arms: Arms,
+    rates: &[f64; 15],
+    shape: Shape,
+    count: usize,
     i: usize,
     old: u64,
     p: Progress,
 ) -> Progress
-    requires { ⌜ Packed size (p .count) (now store) × (i < p .count) × (entryOf size (stretch size (now store) i) .entry .body .count ≤ size .k) ⌝ }
-    requires { ⌜ (length (now scratch) ≡ entryLen size) × ShapeBelow 64 (arms .shape) × (arms .count ≤ 15) × Light (15 * i) p ⌝ }
-    ensures { λ r. ⌜ (length (now (scratch .exit)) ≡ entryLen size) × Went size threshold cutoff (branchesBelow size threshold arms (arms .count) (parentAt size (now (store .entry)) i old)) p (now (store .entry)) r (now (store .exit)) ⌝ }
+    requires { ⌜ Packed size (p .count) (now store) × Noted (p .count) (seenAt size [] (now store)) (now keys) (now firsts) × (i < p .count) × (entryOf size (stretch size (now store) i) .entry .body .count ≤ size .k) ⌝ }
+    requires { ⌜ SignMasks usualSalts (walkedRows shape (size .n)) (now masks) × ShapeBelow 64 shape × (count ≤ 15) × Light (15 * i) p ⌝ }
+    ensures { λ r. ⌜ Went size threshold cutoff (branchesBelow size threshold (record { rates = now (rates .entry); count = count; shape = shape }) count (parentAt size (now (store .entry)) i old)) p (now (store .entry)) r (now (store .exit)) × Noted (r .count) (seenAt size [] (now (store .exit))) (now (keys .exit)) (now (firsts .exit)) ⌝ }
 {
-    let rates = arms.rates;
-    let shape = arms.shape;
-    let count = arms.count;
+    let rows = 5 + 3 * size.k;
+    let parent = store::entry(store, size, i);
+    let first = deltas::first_table(masks, size.n, &parent[rows..], shape);
+    let second = deltas::second_table(masks, size.n, &parent[rows..], shape);
     let weight = words::float_of(old);
     let mut q = p;
     let mut a = 0;
     while a < count {
-        let m = arms::mutation_at(shape, a);
         let w = words::bits_of(weight * rates[a]);
-        q = branch_from(store, scratch, size, threshold, cutoff, i, m, w, q);
+        let delta = deltas::delta_at(&first, &second, a);
+        q = merging::merge_changed(
+            store,
+            keys,
+            firsts,
+            size,
+            threshold,
+            cutoff,
+            i,
+            shape,
+            a,
+            w,
+            delta,
+            q,
+        );
         a += 1;
     }
     q
@@ -125,7 +117,8 @@ pub fn scale_parents(store: &mut [u64], size: Size, count: usize, shape: Shape, 
 // The branches of every live parent, in list order, merged. The parents are scaled; `saved` has the weights they had.
 pub fn merge_parents(
     store: &mut [u64],
-    scratch: &mut [u64],
+    keys: &mut [u64; 256],
+    firsts: &mut [u8; 4096],
     size: Size,
     threshold: f64,
     cutoff: f64,
@@ -133,12 +126,15 @@ pub fn merge_parents(
     count: usize,
     saved: &[u64; 256],
 ) -> Progress
-    requires { ⌜ Packed size count (now store) × FewCoefficients size count (now store) ⌝ }
-    requires { ⌜ (length (now scratch) ≡ entryLen size) × ShapeBelow 64 (arms .shape) × (arms .count ≤ 15) × (length (now saved) ≡ 256) ⌝ }
-    ensures { λ r. ⌜ (length (now (scratch .exit)) ≡ entryLen size) × Went size threshold cutoff (branchesUpTo size threshold arms (now (saved .entry)) (now (store .entry)) count) (started count) (now (store .entry)) r (now (store .exit)) ⌝ }
+    requires { ⌜ Packed size count (now store) × FewCoefficients size count (now store) × Noted count (seenAt size [] (now store)) (now keys) (now firsts) ⌝ }
+    requires { ⌜ ShapeBelow 64 (arms .shape) × (arms .count ≤ 15) × (length (now saved) ≡ 256) ⌝ }
+    ensures { λ r. ⌜ Went size threshold cutoff (branchesUpTo size threshold arms (now (saved .entry)) (now (store .entry)) count) (started count) (now (store .entry)) r (now (store .exit)) ⌝ }
 {
     let len = checks::entry_len(size);
     let shape = arms.shape;
+    let rates = arms.rates;
+    let arm_count = arms.count;
+    let masks = keys::sign_masks(keys::usual_salts(), deltas::walked_rows(shape, size.n));
     let mut q = Progress {
         count,
         merged: 0,
@@ -152,11 +148,15 @@ pub fn merge_parents(
         if is_live(shape, store[i * len + 1]) {
             q = merge_arms(
                 store,
-                scratch,
+                keys,
+                firsts,
+                &masks,
                 size,
                 threshold,
                 cutoff,
-                arms,
+                &rates,
+                shape,
+                arm_count,
                 i,
                 saved[i],
                 q,
@@ -182,14 +182,16 @@ pub fn spread(
     ensures { λ r. ⌜ (length (now (saved .exit)) ≡ 256) × (take count (now (saved .exit)) ≡ map (weightOf keyedWeighed) (listed size count (now (store .entry)))) × Spread size threshold cutoff arms (listed size count (now (store .entry))) r (now (store .exit)) ⌝ }
 {
     let shape = arms.shape;
-    let len = checks::entry_len(size);
     rebuild::save_weights(saved, store, size, count);
     let keep = 1.0 - arms::total_rate(arms);
     scale_parents(store, size, count, shape, keep);
-    let mut scratch = [0u64; 581];
+    let mut keys = [0u64; 256];
+    let mut firsts = [255u8; 4096];
+    seeking::note_listed(&mut keys, &mut firsts, store, size, count);
     merge_parents(
         store,
-        &mut scratch[..len],
+        &mut keys,
+        &mut firsts,
         size,
         threshold,
         cutoff,

@@ -8,16 +8,15 @@ use native.Mathlib.Numerals.{add-one}
 use native.Mathlib.Omega.{arith}
 use lib.Dec.{eqb}
 use lib.Ieee.{Float}
-use lib.ListN.{length, drop, drop-of-length-le}
+use lib.ListN.{length, drop, getD, drop-of-length-le}
 use lib.Seq.{drop-cons}
 use borrow.Author.Tests.{eq-eqb, ne-eqb}
-use Rattle.model.specs.Entries.{Keyed, entryOf, stretch, listed}
+use Rattle.model.specs.Entries.{Keyed}
 use Rattle.model.specs.Keys.{storedKey}
 use Rattle.model.specs.Likeness.{alike}
 use Rattle.model.specs.Store.{Walked, walk}
 use Rattle.model.specs.declared.Size.{Size}
 use Rattle.model.specs.declared.Found.the-variants.{At, Nothing}
-use Rattle.model.proofs.Entries.{length-listed, listed-at}
 use Rattle.store.specs.Branch.{Searched}
 
 -- ---- the walk over any list
@@ -54,40 +53,38 @@ module _ (s : Size) (threshold : Float) (b : Keyed) where
       go true false later r = omega arith
       go false like later r = omega arith
 
--- ---- the walk over the entries that a store lists, as the loop makes it
+-- ---- the walk as a loop makes it
 
 -- at place i, with `compared` comparisons made
-pub record Walking (s : Size) (threshold : Float) (b : Keyed) (count : ℕ) (w : List ℕ) (compared i : ℕ) : Type 0 where
-  pub within : i ≤ count
+pub record Walking (s : Size) (threshold : Float) (b : Keyed) (es : List Keyed) (compared i : ℕ) : Type 0 where
+  pub within : i ≤ length es
   pub few : compared ≤ i
-  pub counted : compared + length (walk s threshold b i (drop i (listed s count w)) .tested) ≡ length (walk s threshold b 0 (listed s count w) .tested)
-  pub same : walk s threshold b i (drop i (listed s count w)) .found ≡ walk s threshold b 0 (listed s count w) .found
+  pub counted : compared + length (walk s threshold b i (drop i es) .tested) ≡ length (walk s threshold b 0 es .tested)
+  pub same : walk s threshold b i (drop i es) .found ≡ walk s threshold b 0 es .found
 
-module _ (s : Size) (threshold : Float) (b : Keyed) (count : ℕ) (w : List ℕ) where
-  pub start : Walking s threshold b count w 0 0
+module _ (s : Size) (threshold : Float) (b : Keyed) (es : List Keyed) where
+  pub start : Walking s threshold b es 0 0
   start = record { within = omega arith; few = omega arith; counted = zero-add _; same = refl }
 
-  module _ (compared i : ℕ) (h : Walking s threshold b count w compared i) where
+  module _ (compared i : ℕ) (h : Walking s threshold b es compared i) where
     -- at the end nothing is left
-    pub ended : count ≤ i → Searched s threshold b (listed s count w) (record { found = Nothing; compared = compared })
+    pub ended : length es ≤ i → Searched s threshold b es (record { found = Nothing; compared = compared })
     unfolding walk
     ended l =
-        let none : drop i (listed s count w) ≡ [] = drop-of-length-le (listed s count w) {i = i} (omega (arith, length-listed s count w)) in
+        let none : drop i es ≡ [] = drop-of-length-le es {i = i} l in
         record { found = rw none at (h .same); tested = sym (add-zero compared) ∙ rw none at (h .counted) }
 
-    -- the words e are those of the entry at place i
-    module _ (l : i < count) (e : List ℕ) (q : e ≡ stretch s w i) where
-      step : walk s threshold b i (drop i (listed s count w))
-          ≡ steps (eqb (storedKey (entryOf s e)) (storedKey b)) (alike s threshold (entryOf s e .entry .body) (b .entry .body)) i (walk s threshold b (i + 1) (drop (i + 1) (listed s count w)))
+    -- e is the entry at place i
+    module _ (l : i < length es) (e : Keyed) (q : getD es i e ≡ e) where
+      step : walk s threshold b i (drop i es)
+          ≡ steps (eqb (storedKey e) (storedKey b)) (alike s threshold (e .entry .body) (b .entry .body)) i (walk s threshold b (i + 1) (drop (i + 1) es))
       unfolding walk
       step =
-          let f : drop i (listed s count w) ≡ entryOf s e ∷ drop (i + 1) (listed s count w) =
-          drop-cons (listed s count w) i (entryOf s e) (omega (arith, length-listed s count w))
-          ∙ rw (listed-at s count i w (entryOf s e) l, q, add-one i) in
+          let f : drop i es ≡ e ∷ drop (i + 1) es = drop-cons es i e l ∙ rw (q, add-one i) in
           rw (f, add-one i)
 
       -- an entry with another key is passed
-      pub other-key : (storedKey (entryOf s e) ≡ storedKey b → ⊥) → Walking s threshold b count w compared (i + 1)
+      pub other-key : (storedKey e ≡ storedKey b → ⊥) → Walking s threshold b es compared (i + 1)
       other-key f =
           record {
             within = omega arith;
@@ -96,9 +93,9 @@ module _ (s : Size) (threshold : Float) (b : Keyed) (count : ℕ) (w : List ℕ)
             same = rw (step, ne-eqb _ _ f) at (h .same);
           }
 
-      module _ (k : storedKey (entryOf s e) ≡ storedKey b) where
+      module _ (k : storedKey e ≡ storedKey b) where
         -- an entry with the key that is unlike is tested
-        pub unlike : alike s threshold (entryOf s e .entry .body) (b .entry .body) ≡ false → Walking s threshold b count w (compared + 1) (i + 1)
+        pub unlike : alike s threshold (e .entry .body) (b .entry .body) ≡ false → Walking s threshold b es (compared + 1) (i + 1)
         unlike f =
             record {
               within = omega arith;
@@ -108,5 +105,5 @@ module _ (s : Size) (threshold : Float) (b : Keyed) (count : ℕ) (w : List ℕ)
             }
 
         -- the first entry with the key that is alike ends the walk
-        pub hit : alike s threshold (entryOf s e .entry .body) (b .entry .body) ≡ true → Searched s threshold b (listed s count w) (record { found = At i; compared = compared + 1 })
+        pub hit : alike s threshold (e .entry .body) (b .entry .body) ≡ true → Searched s threshold b es (record { found = At i; compared = compared + 1 })
         hit f = record { found = rw (step, eq-eqb _ _ k, f) at (h .same); tested = rw (step, eq-eqb _ _ k, f) at (h .counted) }

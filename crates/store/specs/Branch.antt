@@ -1,10 +1,10 @@
--- What is asked of a branch and of the store that it is merged into, and what a search and a merge promise. Assumes nothing.
-use Prim.Native.Nat.{ℕ, _+_, _≤_}
+-- What a search and a merge promise. Assumes nothing.
+use Prim.Native.Nat.{ℕ, _+_}
 use mathlib.Core.Path.{_≡_}
 use mathlib.Core.List.{List, [], _∷_, _++_}
 use lib.Ieee.{Float}
-use lib.ListN.{length, getD}
-use Rattle.model.specs.Entries.{Keyed, entryLen, listed}
+use lib.ListN.{length}
+use Rattle.model.specs.Entries.{Keyed, listed}
 use Rattle.model.specs.Store.{Tally, begun, walk, merge, aboveCutoff}
 use Rattle.model.specs.Calls.{engine}
 use Rattle.model.specs.declared.Size.{Size}
@@ -13,11 +13,6 @@ use Rattle.store.specs.declared.Search.{Search}
 use Rattle.store.specs.declared.Fate.{Fate}
 use Rattle.store.specs.declared.Fate.the-variants.{Merged, Stored, Dropped, NoRoom}
 use Rattle.store.specs.declared.Settled.{Settled}
-
--- a branch's words: an entry, with no more coefficients than it has room for
-pub record Branch (s : Size) (w : List ℕ) : Type 0 where
-  pub words : length w ≡ entryLen s
-  pub coefficients : getD w 4 0 ≤ s .k
 
 -- the search for b among es is the walk over their stored keys
 pub record Searched (s : Size) (threshold : Float) (b : Keyed) (es : List Keyed) (r : Search) : Type 0 where

@@ -64,7 +64,7 @@ pub fn normalise_entries(store: &mut [u64], size: Size, count: usize) -> bool
 // ---- truncate
 
 // The entry at place `from` written over the one at place `to`: all its words, so its keys move with it.
-fn move_entry(store: &mut [u64], size: Size, count: usize, from: usize, to: usize)
+pub fn move_entry(store: &mut [u64], size: Size, count: usize, from: usize, to: usize)
     requires { ⌜ Packed size count (now store) × (from < count) × (to ≤ from) ⌝ }
     ensures { λ _. ⌜ Holds size count (set (listed size count (now (store .entry))) to (getD (listed size count (now (store .entry))) from (entryOf size []))) (now (store .exit)) ⌝ }
 {

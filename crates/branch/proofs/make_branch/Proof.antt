@@ -1,44 +1,98 @@
--- `branch::make_branch` meets its contract: the words copied, changed in place, and the weight written. Assumes nothing.
-use mathlib.Core.Path.{sym, ap, _∙_}
-use mathlib.Core.List.{List}
-use Prim.Native.Nat.{ℕ}
-use lib.ListN.{length, set, length-set}
-use Rattle.model.specs.Entries.{wordsOf, entryOf}
-use Rattle.model.specs.Keys.{usualSalts}
-use Rattle.model.specs.Changes.{masksOf, changedKeyed}
-use Rattle.branch.proofs.Words.{weight-written}
+-- `branch::make_branch` meets its contract: the head, the coefficients and the rows, one after the other. Assumes nothing.
+use mathlib.Core.Path.{_≡_, ap, _∙_}
+use Prim.Native.Nat.{ℕ, _+_, _*_, _≤_}
+use native.Mathlib.Omega.{arith}
+use denote.Ref.{now}
+use lib.ListN.{length}
+use Rattle.model.specs.Entries.{entryLen}
+use Rattle.model.proofs.Groups.{stride-le}
+use Rattle.branch.proofs.Slot.{made-in-slot}
 use borrow.Author.Needs.{needs}
 use Rattle.branch.proofs.make_branch.Statement.{statement}
 use Rattle.branch.proofs.make_branch.Tie as tie
 
-copy-words-requires : tie.Need-copy-words-requires
-copy-words-requires c κs = search needs
+-- the parent ends before the slot, which ends within the store
+rooms : (c : tie.After-struct-known) →
+    let s = c .before .before .before in
+    let len = c .before .entry-len .result in
+    (s .args .i * len + len ≤ s .args .slot * len) × (s .args .slot * len + len ≤ length (now (s .args .store)))
+rooms c =
+    let s = c .before .before .before in
+    rw (c .before .entry-len .ensures) (stride-le (entryLen (s .args .size)) (s .args .i) (s .args .slot) (s .pre .1), s .pre .2)
 
-change-entry-requires : tie.Need-change-entry-requires
-change-entry-requires c κs =
-    let start = c .before .before .before .before .before .before .before in
-    let copied = c .before .before .before .copy-words .ensures in (
-      start .pre .0,
-      ap length copied ∙ start .pre .1,
-      start .pre .3,
-      start .pre .4 ∙ ap (λ (w : List ℕ). masksOf usualSalts (start .args .size .n) (start .args .m) (entryOf (start .args .size) w .entry .body .rows)) (sym copied),
+entry-len-requires : tie.Need-entry-len-requires
+entry-len-requires c κs = search needs
+
+mul-coefs : tie.Need-mul-coefs
+mul-coefs c = search needs
+
+mul-from : tie.Need-mul-from
+mul-from c = omega (arith, rooms c)
+
+mul-to : tie.Need-mul-to
+mul-to c = omega (arith, rooms c)
+
+make-head-requires : tie.Need-make-head-requires
+make-head-requires c κs = (omega (arith, rooms (c .before), c .before .before .entry-len .ensures), omega (arith, rooms (c .before), c .before .before .entry-len .ensures), c .before .before .before .before .pre .3)
+
+add-copy-part : tie.Need-add-copy-part
+add-copy-part c = omega (arith, rooms (c .before .before .before .before .before), c .before .before .before .before .before .before .entry-len .ensures)
+
+add-copy-part-2 : tie.Need-add-copy-part-2
+add-copy-part-2 c = omega (arith, rooms (c .before .before .before .before .before), c .before .before .before .before .before .before .entry-len .ensures)
+
+copy-part-requires : tie.Need-copy-part-requires
+copy-part-requires c κs = omega (arith, rooms (c .before .before .before .before .before), c .before .before .before .before .before .before .entry-len .ensures, c .before .before .before .make-head .kept .0)
+
+add-copy-rows : tie.Need-add-copy-rows
+add-copy-rows c = omega (arith, rooms (c .before .before .before .before .before .before .before .before .before), c .before .before .before .before .before .before .before .before .before .before .entry-len .ensures)
+
+add-copy-rows-2 : tie.Need-add-copy-rows-2
+add-copy-rows-2 c = omega (arith, rooms (c .before .before .before .before .before .before .before .before .before), c .before .before .before .before .before .before .before .before .before .before .entry-len .ensures)
+
+add-copy-rows-3 : tie.Need-add-copy-rows-3
+add-copy-rows-3 c = omega (arith, rooms (c .before .before .before .before .before .before .before .before .before), c .before .before .before .before .before .before .before .before .before .before .entry-len .ensures)
+
+add-copy-rows-4 : tie.Need-add-copy-rows-4
+add-copy-rows-4 c = omega (arith, rooms (c .before .before .before .before .before .before .before .before .before), c .before .before .before .before .before .before .before .before .before .before .entry-len .ensures)
+
+copy-rows-requires : tie.Need-copy-rows-requires
+copy-rows-requires c κs =
+    let s = c .before .before .before .before .before .before .before .before .before .before .before .before in
+    let e = c .before .before .before .before .before .before .before .before .before .before .entry-len .ensures in (
+      s .pre .0 .qubits,
+      omega (arith, rooms (c .before .before .before .before .before .before .before .before .before), e),
+      omega (arith, rooms (c .before .before .before .before .before .before .before .before .before), e, c .before .before .before .before .before .before .before .make-head .kept .0, c .before .before .before .copy-part .kept .0),
+      s .pre .3,
     )
 
-slice-write-out : tie.Need-slice-write-out
-slice-write-out c = search needs
-
 same-length : tie.Need-same-length
-same-length c = simp length-set (c .before .out2 .given ∙ c .before .before .before .before .before .out .given)
+same-length c = search needs
 
 returns : tie.Need-returns
 returns c =
-    let args = c .before .before .before .before .before .before .before .before .before .before .args in
-    let parent = c .before .before .before .before .before .before .copy-words .ensures in
-    ap (λ (w : List ℕ). set w 0 (args .weight))
-    (c .before .before .change-entry .ensures ∙ ap (λ (w : List ℕ). wordsOf (changedKeyed usualSalts (args .size .n) (args .m) (entryOf (args .size) w))) parent)
-    ∙ weight-written (changedKeyed usualSalts (args .size .n) (args .m) (entryOf (args .size) (args .parent .now))) (args .weight)
+    let s = c .before .before .before .before .before .before .before .before .before .before .before .before .before .before .before in
+    let a = s .args in
+    let e = c .before .before .before .before .before .before .before .before .before .before .before .before .before .entry-len .ensures in
+    made-in-slot (a .size) (a .m) (a .weight) (a .delta) (a .i) (a .slot) (now (a .store)) (s .pre .1) (s .pre .2) (s .pre .4) (rw e at (c .before .before .before .before .before .before .before .before .before .before .make-head .ensures))
+    (rw e at (c .before .before .before .before .before .before .copy-part .ensures)) (rw e at (c .before .before .copy-rows .ensures))
 
 pub make-branch-spec : {M : Type 1} → statement M
 make-branch-spec =
     tie.close
-    (tie.spec copy-words-requires change-entry-requires slice-write-out same-length returns)
+    (tie.spec
+    entry-len-requires
+    mul-coefs
+    mul-from
+    mul-to
+    make-head-requires
+    add-copy-part
+    add-copy-part-2
+    copy-part-requires
+    add-copy-rows
+    add-copy-rows-2
+    add-copy-rows-3
+    add-copy-rows-4
+    copy-rows-requires
+    same-length
+    returns)

@@ -4,7 +4,7 @@ use denote.Ref.{now}
 use lib.Ieee.{Float}
 use Rattle.model.specs.Floats.{float, zeroBits}
 use Rattle.model.specs.Calls.{Lent, held}
-use Rattle.reset.proofs.Leaves.{parted-few}
+use Rattle.reset.proofs.Leaves.{still-few}
 use Rattle.drops.proofs.Taken.{lost, reset-takes}
 use borrow.Author.Needs.{needs}
 use Rattle.drops.proofs.run_reset.Statement.{statement}
@@ -21,11 +21,8 @@ from-ready c = c .before .before .before .before
 abbrev from-total : tie.After-weights-total → tie.After-ready
 from-total c = c .before .before .before .before
 
-abbrev from-parted : tie.After-part-lost → tie.After-weights-total
-from-parted c = c .before .before
-
-abbrev from-merged : tie.After-merge-all-back → tie.After-part-lost
-from-merged c = c .before .before .before .before
+abbrev from-merged : tie.After-merge-lost → tie.After-weights-total
+from-merged c = c .before .before
 
 -- ---- the needs
 
@@ -35,16 +32,12 @@ ready-requires c κs = search needs
 weights-total-requires : tie.Need-weights-total-requires
 weights-total-requires c κs = search needs
 
-part-lost-requires : tie.Need-part-lost-requires
-part-lost-requires c κs = search needs
-
-merge-all-back-requires : tie.Need-merge-all-back-requires
-merge-all-back-requires c κs =
-    let o = c .before .before .before in
-    let y = from-total (from-parted o) in
+merge-lost-requires : tie.Need-merge-lost-requires
+merge-lost-requires c κs =
+    let y = from-total (c .before) in
     let b = from-ready y in
-    let t = o .part-lost .ensures in
-    (t .packed, t .within, parted-few (given b) (b .args .q) _ (y .ready .ensures .1) (o .part-lost .result) _ t (b .pre .1), b .pre .2)
+    let r = y .ready .ensures in
+    (r .0, still-few (given b) (b .args .q) _ (r .1) (b .pre .1), b .pre .2)
 
 dropped-from-requires : tie.Need-dropped-from-requires
 dropped-from-requires c κs = search needs
@@ -55,12 +48,11 @@ same-length c = search needs
 returns : tie.Need-returns
 returns c =
     let m = c .before .before .before .before in
-    let o = from-merged m in
-    let n = from-parted o in
+    let n = from-merged m in
     let y = from-total n in
     let b = from-ready y in
     ap (λ (d : Float). lost d (float zeroBits)) (c .dropped-from .ensures)
-    ∙ reset-takes (given b) (b .args .q) _ (y .ready .ensures .1) (o .part-lost .result) _ (o .part-lost .ensures) (m .merge-all-back .result) _ (m .merge-all-back .ensures) (n .weights-total .result) (n .weights-total .ensures)
+    ∙ reset-takes (given b) (b .args .q) _ (y .ready .ensures .1) (m .merge-lost .result) _ (m .merge-lost .ensures) (n .weights-total .result) (n .weights-total .ensures)
 
 pub run-reset-spec : {M : Type 1} → statement M
 run-reset-spec =
@@ -68,8 +60,7 @@ run-reset-spec =
     (tie.spec
     ready-requires
     weights-total-requires
-    part-lost-requires
-    merge-all-back-requires
+    merge-lost-requires
     dropped-from-requires
     same-length
     returns)

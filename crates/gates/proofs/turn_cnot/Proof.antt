@@ -1,59 +1,42 @@
 -- `gates::turn_cnot` meets its contract: its three writes leave the turned row. Assumes nothing.
-use Prim.Native.Nat.{_*_, _<_}
-use native.Mathlib.Omega.{arith}
-use Rattle.gates.proofs.Rows.{product-lt, three-words, cnot-written}
+use Rattle.gates.proofs.Rows.{three-words}
+use Rattle.gates.proofs.Masks.{cnot-written}
 use borrow.Author.Needs.{needs}
 use Rattle.gates.proofs.turn_cnot.Statement.{statement}
 use Rattle.gates.proofs.turn_cnot.Tie as tie
 
--- x_a·z_b
-both : (c : tie.After-slice-known2) → c .before .before .before .before .before .before .before .x-bit .result * c .before .z-bit2 .result < 2
-both c = product-lt (c .before .before .before .before .before .before .before .x-bit .result) (c .before .z-bit2 .result) (omega arith) (omega arith)
+power-requires : tie.Need-power-requires
+power-requires c κs = search needs
 
-x-bit-requires : tie.Need-x-bit-requires
-x-bit-requires c κs = search needs
+power-requires-2 : tie.Need-power-requires-2
+power-requires-2 c κs = search needs
 
-z-bit-requires : tie.Need-z-bit-requires
-z-bit-requires c κs = search needs
+slice-read-x : tie.Need-slice-read-x
+slice-read-x c = search needs
 
-x-bit-requires-2 : tie.Need-x-bit-requires-2
-x-bit-requires-2 c κs = search needs
+slice-read-z : tie.Need-slice-read-z
+slice-read-z c = search needs
 
-z-bit-requires-2 : tie.Need-z-bit-requires-2
-z-bit-requires-2 c κs = search needs
+select-requires : tie.Need-select-requires
+select-requires c κs = search needs
 
-slice-read-xor-bit : tie.Need-slice-read-xor-bit
-slice-read-xor-bit c = search needs
+select-requires-2 : tie.Need-select-requires-2
+select-requires-2 c κs = search needs
 
-mul-xor-bit : tie.Need-mul-xor-bit
-mul-xor-bit c = omega (arith, both c)
+slice-read-row : tie.Need-slice-read-row
+slice-read-row c = search needs
 
-same-bits-requires : tie.Need-same-bits-requires
-same-bits-requires c κs = search needs
-
-mul-xor-bit-2 : tie.Need-mul-xor-bit-2
-mul-xor-bit-2 c = omega (arith, product-lt _ _ (both (c .before)) (c .same-bits .ensures .1))
-
-xor-bit-requires : tie.Need-xor-bit-requires
-xor-bit-requires c κs = search needs
+select-requires-3 : tie.Need-select-requires-3
+select-requires-3 c κs = search needs
 
 slice-write-row : tie.Need-slice-write-row
 slice-write-row c = search needs
 
-slice-read-xor-bit-2 : tie.Need-slice-read-xor-bit-2
-slice-read-xor-bit-2 c = search needs
-
-xor-bit-requires-2 : tie.Need-xor-bit-requires-2
-xor-bit-requires-2 c κs = search needs
+select-requires-4 : tie.Need-select-requires-4
+select-requires-4 c κs = search needs
 
 slice-write-row-2 : tie.Need-slice-write-row-2
 slice-write-row-2 c = search needs
-
-slice-read-xor-bit-3 : tie.Need-slice-read-xor-bit-3
-slice-read-xor-bit-3 c = search needs
-
-xor-bit-requires-3 : tie.Need-xor-bit-requires-3
-xor-bit-requires-3 c κs = search needs
 
 slice-write-row-3 : tie.Need-slice-write-row-3
 slice-write-row-3 c = search needs
@@ -63,28 +46,24 @@ same-length c = search needs
 
 returns : tie.Need-returns
 returns c =
-    cnot-written _ _ (three-words (c .before .before .before .before .before .before .before .before .before .before .before .before .before .before .before .before .args .row .now) (c .before .before .before .before .before .before .before .before .before .before .before .before .before .before .before .before .pre .0)) (c .before .before .before .before .before .before .before .before .before .before .before .before .before .x-bit .ensures) (c .before .before .before .before .before .before .before .before .before .before .before .z-bit .ensures) (c .before .before .before .before .before .before .before .before .before .x-bit2 .ensures) (c .before .before .before .before .before .before .before .z-bit2 .ensures)
-    (c .before .before .before .before .before .same-bits .ensures .0) (c .before .before .before .before .xor-bit .ensures) (c .before .before .xor-bit2 .ensures) (c .xor-bit3 .ensures)
+    let b = c .before .before .before .before .before .before .before .before .before .before in
+    cnot-written (b .args .a) (b .args .b) (three-words (b .args .row .now) (b .pre .0)) (c .before .before .before .before .before .before .before .before .power .ensures) (c .before .before .before .before .before .before .before .power2 .ensures) (c .before .before .before .before .select .ensures) (c .before .before .before .select2 .ensures) (c .before .select3 .ensures) (c .select4 .ensures)
 
 pub turn-cnot-spec : {M : Type 1} → statement M
 turn-cnot-spec =
     tie.close
     (tie.spec
-    x-bit-requires
-    z-bit-requires
-    x-bit-requires-2
-    z-bit-requires-2
-    slice-read-xor-bit
-    mul-xor-bit
-    same-bits-requires
-    mul-xor-bit-2
-    xor-bit-requires
+    power-requires
+    power-requires-2
+    slice-read-x
+    slice-read-z
+    select-requires
+    select-requires-2
+    slice-read-row
+    select-requires-3
     slice-write-row
-    slice-read-xor-bit-2
-    xor-bit-requires-2
+    select-requires-4
     slice-write-row-2
-    slice-read-xor-bit-3
-    xor-bit-requires-3
     slice-write-row-3
     same-length
     returns)

@@ -1,33 +1,27 @@
 -- `gates::turn_s` meets its contract: its two writes leave the turned row. Assumes nothing.
-use native.Mathlib.Omega.{arith}
-use Rattle.gates.proofs.Rows.{product-lt, three-words, s-written}
+use Rattle.gates.proofs.Rows.{three-words}
+use Rattle.gates.proofs.Masks.{s-written}
 use borrow.Author.Needs.{needs}
 use Rattle.gates.proofs.turn_s.Statement.{statement}
 use Rattle.gates.proofs.turn_s.Tie as tie
 
-x-bit-requires : tie.Need-x-bit-requires
-x-bit-requires c κs = search needs
+slice-read-x : tie.Need-slice-read-x
+slice-read-x c = search needs
 
-z-bit-requires : tie.Need-z-bit-requires
-z-bit-requires c κs = search needs
+power-requires : tie.Need-power-requires
+power-requires c κs = search needs
 
-slice-read-xor-bit : tie.Need-slice-read-xor-bit
-slice-read-xor-bit c = search needs
+slice-read-z : tie.Need-slice-read-z
+slice-read-z c = search needs
 
-mul-xor-bit : tie.Need-mul-xor-bit
-mul-xor-bit c = omega (arith, product-lt (c .before .before .before .x-bit .result) (c .before .z-bit .result) (omega arith) (omega arith))
+slice-read-row : tie.Need-slice-read-row
+slice-read-row c = search needs
 
-xor-bit-requires : tie.Need-xor-bit-requires
-xor-bit-requires c κs = search needs
+select-requires : tie.Need-select-requires
+select-requires c κs = search needs
 
 slice-write-row : tie.Need-slice-write-row
 slice-write-row c = search needs
-
-slice-read-xor-bit-2 : tie.Need-slice-read-xor-bit-2
-slice-read-xor-bit-2 c = search needs
-
-xor-bit-requires-2 : tie.Need-xor-bit-requires-2
-xor-bit-requires-2 c κs = search needs
 
 slice-write-row-2 : tie.Need-slice-write-row-2
 slice-write-row-2 c = search needs
@@ -37,20 +31,19 @@ same-length c = search needs
 
 returns : tie.Need-returns
 returns c =
-    s-written _ (three-words (c .before .before .before .before .before .before .before .before .before .args .row .now) (c .before .before .before .before .before .before .before .before .before .pre .0)) (c .before .before .before .before .before .before .x-bit .ensures) (c .before .before .before .before .z-bit .ensures) (c .before .before .xor-bit .ensures) (c .xor-bit2 .ensures)
+    let b = c .before .before .before .before .before .before in
+    s-written (b .args .q) (three-words (b .args .row .now) (b .pre .0)) (c .before .before .before .power .ensures) (c .select .ensures)
 
 pub turn-s-spec : {M : Type 1} → statement M
 turn-s-spec =
     tie.close
     (tie.spec
-    x-bit-requires
-    z-bit-requires
-    slice-read-xor-bit
-    mul-xor-bit
-    xor-bit-requires
+    slice-read-x
+    power-requires
+    slice-read-z
+    slice-read-row
+    select-requires
     slice-write-row
-    slice-read-xor-bit-2
-    xor-bit-requires-2
     slice-write-row-2
     same-length
     returns)

@@ -5,6 +5,7 @@ use native.Mathlib.Omega.{arith}
 use borrow.Author.Needs.{needs}
 use Rattle.model.specs.Keys.{bit, maskSum}
 use Rattle.model.proofs.Sums.{maskSum-none, maskSum-next}
+use Rattle.keys.proofs.Tables.{none-lost}
 use Rattle.keys.proofs.loss_key.Statement.{statement}
 use Rattle.keys.proofs.loss_key.Tie as tie
 
@@ -13,6 +14,9 @@ Inv-loop salts n loss h₀ q₀ h q = (q ≤ n) × (h ≡ maskSum (salts .loss) 
 
 abbrev μ-loop : tie.MeasureT-loop
 μ-loop salts n loss h₀ q₀ h q = n - q
+
+returns : tie.Need-returns Inv-loop μ-loop
+returns c = none-lost (c .before .args .salts .loss) (c .before .args .n) (c .before .args .loss) (c .if1 .taken)
 
 loop-holds : tie.Need-loop-holds Inv-loop μ-loop
 loop-holds c = (omega arith, maskSum-none _ _)
@@ -32,9 +36,9 @@ loop-less c = omega arith
 loop-again : tie.Need-loop-again Inv-loop μ-loop
 loop-again c = (omega arith, maskSum-next _ _ _ (c .before .before .loop .inv .1) (c .masked .ensures))
 
-returns : tie.Need-returns Inv-loop μ-loop
-returns c =
-    let e : c .before .loop .q ≡ c .before .before .args .n = omega arith in
+returns-2 : tie.Need-returns-2 Inv-loop μ-loop
+returns-2 c =
+    let e : c .before .loop .q ≡ c .before .before .before .args .n = omega arith in
     cc
 
 pub loss-key-spec : {M : Type 1} → statement M
@@ -43,10 +47,11 @@ loss-key-spec =
     (tie.spec
     Inv-loop
     μ-loop
+    returns
     loop-holds
     shr-masked
     masked-requires
     add-q
     loop-less
     loop-again
-    returns)
+    returns-2)

@@ -1,5 +1,5 @@
 -- `keys::word_key` meets its contract. The invariant: h is the word key of the rows below i. Assumes nothing.
-use mathlib.Core.Path.{_≡_}
+use mathlib.Core.Path.{_≡_, refl}
 use Prim.Native.Nat.{_*_, _≤_, _-_}
 use native.Mathlib.Omega.{arith}
 use borrow.Author.Needs.{needs}
@@ -21,32 +21,8 @@ mul-m c = omega arith
 loop-holds : tie.Need-loop-holds Inv-loop μ-loop
 loop-holds c = (omega arith, wordKey-none _ _)
 
-mul-x : tie.Need-mul-x Inv-loop μ-loop
-mul-x c = omega arith
-
-mul-x-2 : tie.Need-mul-x-2 Inv-loop μ-loop
-mul-x-2 c = omega arith
-
-shared-slice-read-x : tie.Need-shared-slice-read-x Inv-loop μ-loop
-shared-slice-read-x c = omega arith
-
-mul-z : tie.Need-mul-z Inv-loop μ-loop
-mul-z c = omega arith
-
-add-z : tie.Need-add-z Inv-loop μ-loop
-add-z c = omega arith
-
-mul-z-2 : tie.Need-mul-z-2 Inv-loop μ-loop
-mul-z-2 c = omega arith
-
-shared-slice-read-z : tie.Need-shared-slice-read-z Inv-loop μ-loop
-shared-slice-read-z c = omega arith
-
-absorb-word-requires : tie.Need-absorb-word-requires Inv-loop μ-loop
-absorb-word-requires c κs = search needs
-
-absorb-word-requires-2 : tie.Need-absorb-word-requires-2 Inv-loop μ-loop
-absorb-word-requires-2 c κs = search needs
+absorb-row-requires : tie.Need-absorb-row-requires Inv-loop μ-loop
+absorb-row-requires c κs = search needs
 
 add-i : tie.Need-add-i Inv-loop μ-loop
 add-i c = omega arith
@@ -55,9 +31,7 @@ loop-less : tie.Need-loop-less Inv-loop μ-loop
 loop-less c = omega arith
 
 loop-again : tie.Need-loop-again Inv-loop μ-loop
-loop-again c =
-    let at = c .before .before .before .before .before in
-    (omega arith, wordKey-next _ _ _ (at .loop .inv .1) (c .before .absorb-word .ensures) (c .absorb-word2 .ensures))
+loop-again c = (omega arith, wordKey-next _ _ _ (c .before .before .loop .inv .1) refl (c .absorb-row .ensures))
 
 returns : tie.Need-returns Inv-loop μ-loop
 returns c =
@@ -72,15 +46,7 @@ word-key-spec =
     μ-loop
     mul-m
     loop-holds
-    mul-x
-    mul-x-2
-    shared-slice-read-x
-    mul-z
-    add-z
-    mul-z-2
-    shared-slice-read-z
-    absorb-word-requires
-    absorb-word-requires-2
+    absorb-row-requires
     add-i
     loop-less
     loop-again

@@ -1,78 +1,15 @@
--- `likeness::near_at` meets its contract. The comparison is the definition's, on what the calls ensure. Assumes nothing.
-use mathlib.Core.Path.{_≡_}
-use Prim.Native.Nat.{ℕ}
-use mathlib.Core.List.{List}
-use lib.Ieee.{Float, lt}
+-- `likeness::near_at` meets its contract. Assumes nothing.
+use mathlib.Core.Bool.{true≢false}
+use mathlib.Core.Path.{sym}
 use borrow.Author.Needs.{needs}
-use Rattle.model.specs.Floats.{float, plus, minus}
-use Rattle.model.specs.Entries.{Body, indexAt, reAt, imAt}
-use Rattle.model.specs.Likeness.{valueAt, square, nearAt}
 use Rattle.likeness.proofs.near_at.Statement.{statement}
 use Rattle.likeness.proofs.near_at.Tie as tie
 
-compared : (limit : Float) (a b : Body) (j : ℕ) {x y : List ℕ} {count : ℕ} {re im re′ im′ : Float}
-    → a .coefs ≡ x → b .coefs ≡ y → b .count ≡ count
-    → re ≡ float (reAt x j) → im ≡ float (imAt x j)
-    → re′ ≡ float (valueAt reAt y (indexAt x j) count) → im′ ≡ float (valueAt imAt y (indexAt x j) count)
-    → lt (plus (square (minus re re′)) (square (minus im im′))) limit ≡ nearAt limit a b j
-unfolding nearAt
-compared limit a b j ea eb ec hr hi hr′ hi′ = rw (ea, eb, ec, hr, hi, hr′, hi′)
-
-mul-at : tie.Need-mul-at
-mul-at c = search needs
-
-mul-value-at : tie.Need-mul-value-at
-mul-value-at c = search needs
-
-shared-slice-read-value-at : tie.Need-shared-slice-read-value-at
-shared-slice-read-value-at c = search needs
-
-value-at-requires : tie.Need-value-at-requires
-value-at-requires c κs = search needs
-
-add-float-of : tie.Need-add-float-of
-add-float-of c = search needs
-
-mul-float-of : tie.Need-mul-float-of
-mul-float-of c = search needs
-
-shared-slice-read-float-of : tie.Need-shared-slice-read-float-of
-shared-slice-read-float-of c = search needs
-
-float-of-requires : tie.Need-float-of-requires
-float-of-requires c κs = search needs
-
-add-float-of-2 : tie.Need-add-float-of-2
-add-float-of-2 c = search needs
-
-mul-float-of-2 : tie.Need-mul-float-of-2
-mul-float-of-2 c = search needs
-
-shared-slice-read-float-of-2 : tie.Need-shared-slice-read-float-of-2
-shared-slice-read-float-of-2 c = search needs
-
-float-of-requires-2 : tie.Need-float-of-requires-2
-float-of-requires-2 c κs = search needs
+near-by-requires : tie.Need-near-by-requires
+near-by-requires c κs = (c .before .before .pre .0, (c .before .before .pre .1, λ h. absurd (true≢false (sym h))))
 
 returns : tie.Need-returns
-returns c a b ea eb ec =
-    let v = c .before .before .before .before .before .before .value-at in
-    compared _ a b _ ea eb ec (c .before .before .before .before .float-of .ensures) (c .before .float-of2 .ensures) (v .ensures .0) (v .ensures .1)
+returns c = search needs
 
 pub near-at-spec : {M : Type 1} → statement M
-near-at-spec =
-    tie.close
-    (tie.spec
-    mul-at
-    mul-value-at
-    shared-slice-read-value-at
-    value-at-requires
-    add-float-of
-    mul-float-of
-    shared-slice-read-float-of
-    float-of-requires
-    add-float-of-2
-    mul-float-of-2
-    shared-slice-read-float-of-2
-    float-of-requires-2
-    returns)
+near-at-spec = tie.close (tie.spec near-by-requires returns)

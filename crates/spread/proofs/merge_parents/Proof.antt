@@ -1,34 +1,60 @@
--- `spread::merge_parents` meets its contract. The loop's invariant: the branches of the first i parents are merged. Assumes nothing.
-use mathlib.Core.Path.{_≡_, refl, sym, ap, _∙_}
+-- `spread::merge_parents` meets its contract. The loop's invariant: the branches of the first i parents are merged, and the keys noted.
+-- Assumes nothing.
+use mathlib.Core.Path.{_≡_, refl, sym, ap, _∙_, subst}
 use mathlib.Core.Logic.{⊎-elim}
-use Prim.Native.Nat.{_≤_, _+_, _*_, _-_}
+use mathlib.Core.List.{List, []}
+use Prim.Native.Nat.{ℕ, _≤_, _+_, _*_, _-_}
 use native.Mathlib.Omega.{arith}
-use borrow.Author.Needs.{needs}
 use denote.Ref.{now}
 use lib.ListN.{length}
+use Rattle.model.specs.Keys.{usualSalts}
+use Rattle.model.specs.declared.Salts.{Salts}
+use Rattle.model.proofs.Entries.{loss-word}
 use Rattle.rebuild.proofs.Turns.{limits, slot-end}
+use Rattle.keys.specs.Deltas.{SignMasks}
+use Rattle.deltas.proofs.Masks.{few-walked}
+use Rattle.seeking.specs.Noted.{seenAt, Noted}
 use Rattle.merging.specs.Progress.{Went, started}
 use Rattle.spread.specs.Branches.{liveAt, branchesUpTo}
 use Rattle.spread.proofs.Parents.{none-done, parent-done, parent-lost, few-so-far, same-count, still-there}
+use borrow.Author.Needs.{needs}
 use Rattle.spread.proofs.merge_parents.Statement.{statement}
 use Rattle.spread.proofs.merge_parents.Tie as tie
-use Rattle.model.proofs.Entries.{loss-word}
 
 abbrev Inv-loop : tie.InvT-loop
-Inv-loop store₀ scratch₀ size threshold cutoff arms count saved len shape q₀ i₀ store scratch q i = (i ≤ count) × (length store ≡ length store₀) × (length scratch ≡ length scratch₀) × Went size threshold cutoff (branchesUpTo size threshold arms saved store₀ i) (started count) store₀ q store
+Inv-loop store₀ keys₀ firsts₀ size threshold cutoff count saved len shape rates arm-count masks q₀ i₀ store keys firsts q i =
+    (i ≤ count) × (length store ≡ length store₀)
+    × Went size threshold cutoff (branchesUpTo size threshold (record { rates = rates; count = arm-count; shape = shape }) saved store₀ i) (started count) store₀ q store
+    × Noted (q .count) (seenAt size [] store) keys firsts
 
 abbrev μ-loop : tie.MeasureT-loop
-μ-loop store₀ scratch₀ size threshold cutoff arms count saved len shape q₀ i₀ store scratch q i = count - i
+μ-loop store₀ keys₀ firsts₀ size threshold cutoff count saved len shape rates arm-count masks q₀ i₀ store keys firsts q i =
+    count - i
 
 -- the entry at the loop's place lies in the store
-inside : (c : tie.In-loop Inv-loop μ-loop) → c .before .loop .i * c .before .before .entry-len .result + 5 ≤ length (c .before .before .before .before .before .args .store .now)
-inside c = omega (arith, c .before .before .entry-len .ensures, slot-end (c .before .before .before .before .before .args .size) (c .before .before .entry-len .result) _ (c .before .before .before .before .before .args .count) (c .before .before .before .before .before .pre .0 .0 .sized) (c .before .before .entry-len .ensures) (c .before .before .before .before .before .pre .0 .0 .room) (c .before .loop .i) (c .loop-test .taken))
+inside : (c : tie.In-loop Inv-loop μ-loop) → c .before .loop .i * c .before .before .before .before .before .before .entry-len .result + 5 ≤ length (c .before .before .before .before .before .before .before .before .args .store .now)
+inside c =
+    let s = c .before .before .before .before .before .before .before .before in
+    let e = c .before .before .before .before .before .before .entry-len in
+    omega (arith, e .ensures, slot-end (s .args .size) (e .result) _ (s .args .count) (s .pre .0 .0 .sized) (e .ensures) (s .pre .0 .0 .room) (c .before .loop .i) (c .loop-test .taken))
 
 entry-len-requires : tie.Need-entry-len-requires Inv-loop μ-loop
-entry-len-requires c κs = limits _ _ (c .before .before .pre .0 .0 .sized)
+entry-len-requires c κs = limits _ _ (c .before .pre .0 .0 .sized)
+
+usual-salts-requires : tie.Need-usual-salts-requires Inv-loop μ-loop
+usual-salts-requires c κs = search needs
+
+walked-rows-requires : tie.Need-walked-rows-requires Inv-loop μ-loop
+walked-rows-requires c κs = c .before .before .before .before .pre .0 .0 .sized .qubits .high
+
+sign-masks-requires : tie.Need-sign-masks-requires Inv-loop μ-loop
+sign-masks-requires c κs = omega (arith, c .walked-rows .ensures, few-walked (c .before .before .before .before .before .args .arms .shape) (c .before .before .before .before .before .args .size .n), c .before .before .before .before .before .pre .0 .0 .sized .qubits .high)
 
 loop-holds : tie.Need-loop-holds Inv-loop μ-loop
-loop-holds c = let a = c .before .before .before .args in (omega arith, refl, refl, none-done (a .size) (a .threshold) (a .cutoff) (a .arms) (now (a .saved)) (now (a .store)) (a .count) (c .before .before .before .pre .1 .2) (c .before .before .before .pre .0 .0))
+loop-holds c =
+    let s = c .before .before .before .before .before .before in
+    let a = s .args in
+    (omega arith, refl, none-done (a .size) (a .threshold) (a .cutoff) (a .arms) (now (a .saved)) (now (a .store)) (a .count) (s .pre .1 .1) (s .pre .0 .0), s .pre .0 .2)
 
 mul-is-live : tie.Need-mul-is-live Inv-loop μ-loop
 mul-is-live c = omega (arith, inside c)
@@ -43,20 +69,25 @@ slice-read-is-live : tie.Need-slice-read-is-live Inv-loop μ-loop
 slice-read-is-live c = omega (arith, inside (c .before), c .before .before .loop .inv .1)
 
 is-live-requires : tie.Need-is-live-requires Inv-loop μ-loop
-is-live-requires c κs = c .before .before .before .before .before .before .pre .1 .1
+is-live-requires c κs = c .before .before .before .before .before .before .before .before .before .pre .1 .0
 
 mul-merge-arms : tie.Need-mul-merge-arms Inv-loop μ-loop
-mul-merge-arms c = search needs
+mul-merge-arms c = omega (arith, c .before .before .before .before .before .before .before .before .loop-test .taken, c .before .before .before .before .before .before .before .before .before .before .before .before .before .before .before .before .pre .0 .0 .room, c .before .before .before .before .before .before .before .before .before .before .before .before .before .before .before .before .pre .0 .0 .sized .capacity .high)
 
 element-copy-out-merge-arms : tie.Need-element-copy-out-merge-arms Inv-loop μ-loop
-element-copy-out-merge-arms c = search needs
+element-copy-out-merge-arms c = omega (arith, c .before .before .before .before .before .before .before .before .loop-test .taken, c .before .before .before .before .before .before .before .before .before .before .before .before .before .before .before .before .pre .0 .0 .room, c .before .before .before .before .before .before .before .before .before .before .before .before .before .before .before .before .pre .0 .0 .sized .capacity .high)
 
 merge-arms-requires : tie.Need-merge-arms-requires Inv-loop μ-loop
 merge-arms-requires c κs =
-    let a = c .before .before .before .before .before .before .before .before .before .before .before .args in
-    let l = c .before .before .before .before .before .before .before .loop in
-    let t = l .inv .3 in
-    ((t .packed, omega (arith, t .grows, c .before .before .before .before .before .before .loop-test .taken), omega (arith, c .before .before .before .before .before .before .before .before .before .before .before .pre .0 .1 (l .i) (c .before .before .before .before .before .before .loop-test .taken), same-count _ _ (still-there (a .size) (a .threshold) (a .cutoff) (l .i) (c .before .before .before .before .before .before .loop-test .taken) t))), (l .inv .2 ∙ c .before .before .before .before .before .before .before .before .before .before .before .pre .1 .0, c .before .before .before .before .before .before .before .before .before .before .before .pre .1 .1, c .before .before .before .before .before .before .before .before .before .before .before .pre .1 .2, few-so-far (a .size) (a .threshold) (a .cutoff) (a .arms) (now (a .saved)) (now (a .store)) (a .count) (c .before .before .before .before .before .before .before .before .before .before .before .pre .1 .2) (l .i) (c .before .before .before .before .before .before .loop-test .taken) (l .q) (l .store) t))
+    let s = c .before .before .before .before .before .before .before .before .before .before .before .before .before .before .before .before .before in
+    let a = s .args in
+    let l = c .before .before .before .before .before .before .before .before .before .before .loop in
+    let h = c .before .before .before .before .before .before .before .before .before .loop-test .taken in
+    let t = l .inv .2 in
+    let m = c .before .before .before .before .before .before .before .before .before .before .before .sign-masks .ensures in (
+      (t .packed, l .inv .3, omega (arith, t .grows, h), omega (arith, s .pre .0 .1 (l .i) h, same-count _ _ (still-there (a .size) (a .threshold) (a .cutoff) (l .i) h t))),
+      (rw (sym (c .before .before .before .before .before .before .before .before .before .before .before .before .before .usual-salts .ensures), sym (c .before .before .before .before .before .before .before .before .before .before .before .before .walked-rows .ensures)) m, s .pre .1 .0, s .pre .1 .1, few-so-far (a .size) (a .threshold) (a .cutoff) (a .arms) (now (a .saved)) (now (a .store)) (a .count) (s .pre .1 .1) (l .i) h (l .q) (l .store) t),
+    )
 
 add-i : tie.Need-add-i Inv-loop μ-loop
 add-i c = search needs
@@ -66,28 +97,38 @@ loop-less c = search needs
 
 loop-again : tie.Need-loop-again Inv-loop μ-loop
 loop-again c =
-    let a = c .before .before .before .before .before .before .before .before .args in
+    let s = c .before .before .before .before .before .before .before .before .before .before .before in
+    let a = s .args in
     let l = c .before .before .before .before .loop in
-    let t = l .inv .3 in
+    let t = l .inv .2 in
     let h = c .before .before .before .loop-test .taken in
-    let live = ap (liveAt (a .arms .shape)) (sym (loss-word (a .size) (c .before .before .before .before .before .entry-len .result) (l .i) (l .store) (c .before .before .before .before .before .entry-len .ensures))) ∙ sym (c .before .is-live .ensures) in
+    let len = c .before .before .before .before .before .before .before .before .before .entry-len in
+    let live = ap (liveAt (a .arms .shape)) (sym (loss-word (a .size) (len .result) (l .i) (l .store) (len .ensures))) ∙ sym (c .before .is-live .ensures) in
     ⊎-elim
-    (λ w. (omega arith, ap length (w .9) ∙ w .4 .ensures .1 .packed .sized .words ∙ sym (c .before .before .before .before .before .before .before .before .pre .0 .0 .sized .words), ap length (w .10) ∙ w .4 .ensures .0 ∙ sym (c .before .before .before .before .before .before .before .before .pre .1 .0), rw (w .9, w .11) (parent-done (a .size) (a .threshold) (a .cutoff) (a .arms) (now (a .saved)) (now (a .store)) (a .count) (c .before .before .before .before .before .before .before .before .pre .1 .2) (l .i) h (l .q) (l .store) t (live ∙ w .0 .taken) (w .4 .result) _ (w .4 .ensures .1))))
-    (λ w. (omega arith, ap length (w .1) ∙ l .inv .1, ap length (w .2) ∙ l .inv .2, rw (w .1, w .3) (parent-lost (a .size) (a .threshold) (a .cutoff) (a .arms) (now (a .saved)) (now (a .store)) (a .count) (c .before .before .before .before .before .before .before .before .pre .1 .2) (l .i) h (l .q) (l .store) t (live ∙ w .0 .left))))
+    (λ w.
+    let m = w .7 .ensures in (
+      omega arith,
+      ap length (w .10) ∙ m .0 .packed .sized .words ∙ sym (s .pre .0 .0 .sized .words),
+      rw (w .10, w .13) (parent-done (a .size) (a .threshold) (a .cutoff) (a .arms) (now (a .saved)) (now (a .store)) (a .count) (s .pre .1 .1) (l .i) h (l .q) (l .store) t (live ∙ w .0 .taken) (w .7 .result) _ (m .0)),
+      rw (w .10, w .11, w .12, w .13) (m .1),
+    ))
+    (λ w. (
+      omega arith,
+      ap length (w .1) ∙ l .inv .1,
+      rw (w .1, w .4) (parent-lost (a .size) (a .threshold) (a .cutoff) (a .arms) (now (a .saved)) (now (a .store)) (a .count) (s .pre .1 .1) (l .i) h (l .q) (l .store) t (live ∙ w .0 .left)),
+      rw (w .1, w .2, w .3, w .4) (l .inv .3),
+    ))
     (c .if1 .came)
 
 same-length : tie.Need-same-length Inv-loop μ-loop
 same-length c = c .before .loop .inv .1
 
-same-length-2 : tie.Need-same-length-2 Inv-loop μ-loop
-same-length-2 c = c .before .loop .inv .2
-
 returns : tie.Need-returns Inv-loop μ-loop
 returns c =
-    let a = c .before .before .before .before .before .args in
+    let a = c .before .before .before .before .before .before .before .before .args in
     let l = c .before .loop in
     let e : l .i ≡ a .count = omega arith in
-    (l .inv .2 ∙ c .before .before .before .before .before .pre .1 .0, rw e at (l .inv .3))
+    rw e at (l .inv .2)
 
 pub merge-parents-spec : {M : Type 1} → statement M
 merge-parents-spec =
@@ -96,6 +137,9 @@ merge-parents-spec =
     Inv-loop
     μ-loop
     entry-len-requires
+    usual-salts-requires
+    walked-rows-requires
+    sign-masks-requires
     loop-holds
     mul-is-live
     add-is-live
@@ -109,5 +153,4 @@ merge-parents-spec =
     loop-less
     loop-again
     same-length
-    same-length-2
     returns)

@@ -1,10 +1,13 @@
 //! Times of our calls and of the published Rust's, side by side in one process, on the same sums.
 //!
-//!     bench [MILLISECONDS]     for each side of a row, in each of three turns (3, if none is given)
+//!     bench [MILLISECONDS [NAME]]     for each side of a row, in each of three turns (3, if none is given); only rows with NAME in theirs
 //!
 //! Before each run the sum is copied anew, untimed, so it is in the cache as far as it fits; nothing else is cleared. A row's two sides
-//! take turns. What a call gives is used. The Rust has a quick hash in place of document 01's word key, and no probe.
+//! take turns. What a call gives is used, so that nothing is optimised away. The Rust has a quick hash in place of document 01's word key.
+//! Beside each row stands what our check of the whole store takes, which the Rust does not make: a truncate of the same sum from which
+//! nothing goes. At the end each kind of row is held to its goal, and the check to the speed at which a plain loop reads the same words.
 
+mod goals;
 mod sums;
 mod timing;
 
@@ -39,8 +42,20 @@ struct Measured {
     capacity: usize,
     ours: Time,
     theirs: Option<Time>,
+    /// The check alone, and a plain loop over the same words.
+    check: Time,
+    read: Time,
+    /// Of the store.
+    words: usize,
     /// Of the sheet.
     bytes: usize,
+}
+
+impl Measured {
+    /// Of the medians, ours to the Rust's.
+    fn ratio(&self) -> Option<f64> {
+        self.theirs.map(|t| self.ours.median / t.median)
+    }
 }
 
 // ---- rows
@@ -115,8 +130,11 @@ fn measure(row: &Row, capacity: usize, span: Duration) -> Measured {
     let mut text = vec![0u8; 4 << 20];
     let bytes = start.write_sheet(&mut text).length;
     let sheet = text[..bytes].to_vec();
-    let (mut ours, mut theirs) = (Runs::new(), Runs::new());
+    let (mut ours, mut theirs, mut check, mut read) = (Runs::new(), Runs::new(), Runs::new(), Runs::new());
+    let kept = Ours { header: ours::Header { cutoff: 0.0, ..start.header }, ..start.clone() };
     for _ in 0..3 {
+        check.add(span, || kept.clone(), |o| o.call(Call::Truncate));
+        read.add(span, || kept.store.clone(), |w| w.iter().fold(0, |any, w| any | w));
         match row.timed {
             Timed::Call(call) => {
                 ours.add(span, || start.clone(), |o| o.call(call));
@@ -138,7 +156,8 @@ fn measure(row: &Row, capacity: usize, span: Duration) -> Measured {
     let compared = !matches!(row.timed, Timed::WriteSheet | Timed::ReadSheet);
     let (n, k, entries) = (row.sum.n, row.sum.k, entries(&row.sum));
     let theirs = compared.then(|| theirs.time());
-    Measured { name: row.name, n, k, entries, capacity, ours: ours.time(), theirs, bytes }
+    let (ours, check, read, words) = (ours.time(), check.time(), read.time(), start.store.len());
+    Measured { name: row.name, n, k, entries, capacity, ours, theirs, check, read, words, bytes }
 }
 
 /// Both sides accept the call and hold as many entries after it.
@@ -158,11 +177,10 @@ fn print(m: &Measured) {
     let us = |ns: f64| ns / 1000.0;
     print!("{name:<28} {n:>3} {k:>3} {entries:>4} {capacity:>4} {:>9.2} {:>9.2}", us(ours.least), us(ours.median));
     match m.theirs {
-        Some(t) => {
-            println!(" {:>9.2} {:>9.2} {:>7.2} {:>7.2}", us(t.least), us(t.median), ours.least / t.least, ours.median / t.median)
-        }
-        None => println!("   {:.0} MB/s, {} bytes", m.bytes as f64 * 1000.0 / ours.least, m.bytes),
+        Some(t) => print!(" {:>9.2} {:>9.2} {:>7.2} {:>7.2}", us(t.least), us(t.median), ours.least / t.least, ours.median / t.median),
+        None => print!("   {:.0} MB/s, {} bytes", m.bytes as f64 * 1000.0 / ours.least, m.bytes),
     }
+    println!(" {:>9.2}", us(m.check.median));
 }
 
 /// How the least time grows from one column to the next.
@@ -185,15 +203,19 @@ fn growth(all: &[Measured], title: &str, of: impl Fn(&Measured) -> Option<usize>
 
 fn main() {
     let milliseconds = std::env::args().nth(1).map_or(3, |a| a.parse().expect("milliseconds"));
+    let name = std::env::args().nth(2).unwrap_or_default();
     let span = Duration::from_millis(milliseconds);
     println!(
-        "call                           n   K  entr  cap      ours    median      Rust    median   ratio  median   (microseconds; least, median)"
+        "Before each run the sum is copied anew, untimed; nothing else is cleared. What a call gives is used. At least 30 runs a side."
+    );
+    println!(
+        "call                           n   K  entr  cap      ours    median      Rust    median   ratio  median     check   (microseconds; least, median; the check's median)"
     );
     let mut all = Vec::new();
     for n in [4, 16, 64] {
         for k in [1, 16] {
             for count in [16, 64, 200] {
-                for row in rows(n, k, count) {
+                for row in rows(n, k, count).into_iter().filter(|r| r.name.contains(&name)) {
                     let enough = needed(&row);
                     let mut capacities = vec![enough, 256];
                     capacities.dedup();
@@ -206,6 +228,7 @@ fn main() {
             }
         }
     }
+    goals::print(&all);
     let just = |m: &&Measured| m.k == 1 && (m.capacity < 256 || m.entries == 256);
     let just: Vec<Measured> = all.drain(..).filter(|m| just(&m)).collect();
     growth(&just, "by entries, n 16, K 1", |m| (m.n == 16).then_some(m.entries));

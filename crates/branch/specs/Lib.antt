@@ -1,0 +1,3 @@
+pub mod Flip
+pub mod Onto
+pub mod Same

@@ -1,0 +1,80 @@
+-- `deltas::second_table` meets its contract, by cases of the shape. Assumes nothing.
+use mathlib.Core.Path.{sym, ap, _∙_, subst}
+use denote.Ref.{now}
+use Rattle.model.specs.Keys.{usualSalts}
+use Rattle.arms.specs.Arms.{ShapeBelow}
+use Rattle.arms.specs.declared.Shape.{Shape}
+use Rattle.keys.specs.Deltas.{SignMasks}
+use Rattle.deltas.specs.Tables.{walkedRows, secondTable}
+use mathlib.Core.List.{[], _∷_}
+use Prim.Native.Nat.{ℕ}
+use Rattle.model.specs.Keys.{rowMask}
+use Rattle.model.specs.declared.Salts.{Salts}
+use borrow.Author.Needs.{needs}
+use Rattle.deltas.proofs.second_table.Statement.{statement}
+use Rattle.deltas.proofs.second_table.Tie as tie
+
+enum-known-shape : tie.Need-enum-known-shape
+enum-known-shape c = search needs
+
+delta-table-requires : tie.Need-delta-table-requires
+delta-table-requires c κs =
+    let s = c .before .before .before .before in
+    (subst (ShapeBelow 64) (c .before .shape .given .1) (s .pre .2), s .pre .0, s .pre .1)
+
+enum-known-shape-2 : tie.Need-enum-known-shape-2
+enum-known-shape-2 c = search needs
+
+usual-salts-requires : tie.Need-usual-salts-requires
+usual-salts-requires c κs = search needs
+
+loss-mask-requires : tie.Need-loss-mask-requires
+loss-mask-requires c κs = search needs
+
+enum-known-shape-3 : tie.Need-enum-known-shape-3
+enum-known-shape-3 c = search needs
+
+delta-table-requires-2 : tie.Need-delta-table-requires-2
+delta-table-requires-2 c κs =
+    let s = c .before .before .before .before in
+    (subst (ShapeBelow 64) (c .before .shape3 .given .1) (s .pre .2) .1, s .pre .0, s .pre .1)
+
+returns : tie.Need-returns
+unfolding secondTable walkedRows
+returns c =
+    let s = c .before .before .before .before .before in
+    let a = s .args in
+    let e = c .before .before .shape .given .1 in
+    c .delta-table .ensures usualSalts (subst (λ (h : Shape). SignMasks usualSalts (walkedRows h (a .n)) (now (a .masks))) e (s .pre .3))
+    ∙ sym (ap (λ (h : Shape). secondTable h (a .n) (now (a .rows))) e)
+
+returns-2 : tie.Need-returns-2
+unfolding secondTable
+returns-2 c =
+    let a = c .before .before .before .before .before .before .args in
+    let m = c .loss-mask .ensures ∙ ap (λ (s : Salts). rowMask (c .before .before .before .shape2 .given .0 .0) (s .loss)) (c .before .usual-salts .ensures) in
+    ap (λ (x : ℕ). x ∷ x ∷ x ∷ x ∷ []) m ∙ sym (ap (λ (h : Shape). secondTable h (a .n) (now (a .rows))) (c .before .before .before .shape2 .given .1))
+
+returns-3 : tie.Need-returns-3
+unfolding secondTable walkedRows
+returns-3 c =
+    let s = c .before .before .before .before .before in
+    let a = s .args in
+    let e = c .before .before .shape3 .given .1 in
+    c .delta-table2 .ensures usualSalts (subst (λ (h : Shape). SignMasks usualSalts (walkedRows h (a .n)) (now (a .masks))) e (s .pre .3))
+    ∙ sym (ap (λ (h : Shape). secondTable h (a .n) (now (a .rows))) e)
+
+pub second-table-spec : {M : Type 1} → statement M
+second-table-spec =
+    tie.close
+    (tie.spec
+    enum-known-shape
+    delta-table-requires
+    enum-known-shape-2
+    usual-salts-requires
+    loss-mask-requires
+    enum-known-shape-3
+    delta-table-requires-2
+    returns
+    returns-2
+    returns-3)

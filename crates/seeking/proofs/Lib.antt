@@ -1,0 +1,3 @@
+pub mod Noting
+pub mod Rows
+pub mod Seeking

@@ -1,0 +1,149 @@
+-- The changed parent's loss word, coefficients and rows, by the parent's words; and an entry beside it, some rows at a time. Assumes nothing.
+use mathlib.Core.Path.{_≡_, refl, sym, ap, ap₂, _∙_}
+use mathlib.Core.List.{List}
+use Prim.Native.Nat.{ℕ, zero, suc, _+_, _*_, _-_, _/_, _%_, _≤_, _<_}
+use mathlib.Core.Bool.{Bool, true, false, _&&_}
+use native.Mathlib.Nat.{add-zero, add-suc}
+use native.Mathlib.Omega.{arith}
+use lib.Dec.{eqb}
+use lib.Ieee.{Float}
+use lib.ListN.{length, take, getD, drop, length-drop}
+use lib.Seq.{length-take-le, getD-take, getD-drop}
+use Rattle.model.specs.Lists.{allBelow}
+use Rattle.model.specs.Entries.{Body, Row, rowAt, xAt, zAt, phaseAt, rowWords, mapRows, headLen, coefsLen, rowsLen, entryLen, entryOf}
+use Rattle.model.specs.Changes.{flippedRow, changedBody}
+use Rattle.model.specs.Likeness.{sameRows, alike}
+use Rattle.model.specs.declared.BranchMutation.{BranchMutation}
+use Rattle.model.specs.declared.Size.{Size}
+use Rattle.model.proofs.Lists.{and-false, and-true}
+use Rattle.model.proofs.Entries.{bodyOf}
+use Rattle.model.proofs.Rows.{wordsBelow-at}
+use Rattle.likeness.proofs.Alike.{sameAt}
+use Rattle.branch.specs.Flip.{lossAfter}
+use Rattle.branch.specs.Same.{sameWord, flippedRows}
+use Rattle.branch.proofs.Slot.{rows-after}
+
+-- what is compared with an entry
+abbrev pub changed : Size → BranchMutation → List ℕ → Body
+changed s m p = changedBody (s .n) m (bodyOf s p)
+
+module _ (s : Size) (m : BranchMutation) (p : List ℕ) (l : length p ≡ entryLen s) where
+  changed-is : changed s m p ≡ record { loss = lossAfter m (getD p 1 0); count = getD p 4 0; coefs = bodyOf s p .coefs; rows = mapRows (s .n) (flippedRow m) (bodyOf s p .rows) }
+  unfolding entryOf
+  changed-is =
+      rows-after (s .n) m (getD p 1 0) (getD p 4 0) (bodyOf s p .coefs) (drop (headLen + coefsLen s) p) (length-drop (headLen + coefsLen s) p ∙ (omega arith))
+
+  pub loss-is : changed s m p .loss ≡ lossAfter m (getD p 1 0)
+  loss-is = ap (λ (b : Body). b .loss) changed-is
+
+  pub count-is : changed s m p .count ≡ getD p 4 0
+  count-is = ap (λ (b : Body). b .count) changed-is
+
+  pub coefs-is : changed s m p .coefs ≡ bodyOf s p .coefs
+  coefs-is = ap (λ (b : Body). b .coefs) changed-is
+
+  pub rows-are : changed s m p .rows ≡ mapRows (s .n) (flippedRow m) (bodyOf s p .rows)
+  rows-are = ap (λ (b : Body). b .rows) changed-is
+
+-- ---- an entry e beside the changed parent p, some rows at a time
+
+-- a test of a + b words, in two parts
+and-assoc : (a b c : Bool) → (a && b && c) ≡ (a && (b && c))
+and-assoc true b c = refl
+and-assoc false b c = refl
+
+all-split : (f : ℕ → Bool) (a b : ℕ) → allBelow f (a + b) ≡ (allBelow f a && allBelow (λ k. f (a + k)) b)
+unfolding allBelow
+all-split f a zero = ap (allBelow f) (add-zero a) ∙ sym (and-true (allBelow f a))
+all-split f a (suc b) =
+    ap (allBelow f) (add-suc a b) ∙ ap (λ (t : Bool). t && f (a + b)) (all-split f a b)
+    ∙ and-assoc (allBelow f a) (allBelow (λ k. f (a + k)) b) (f (a + b))
+
+all-alike : (f g : ℕ → Bool) (m : ℕ) → ((k : ℕ) → k < m → f k ≡ g k) → allBelow f m ≡ allBelow g m
+unfolding allBelow
+all-alike f g zero h = refl
+all-alike f g (suc m) h = ap₂ (λ (x y : Bool). x && y) (all-alike f g m (λ k l. h k (omega arith))) (h m (omega arith))
+
+-- a difference in the first j words of the rows
+unlike-part : (s : Size) (threshold : Float) (a b : Body) (j : ℕ) → j ≤ rowsLen s → allBelow (sameAt (a .rows) (b .rows)) j ≡ false → alike s threshold a b ≡ false
+unfolding alike sameRows
+unlike-part s threshold a b j l h =
+    let d : rowsLen s ≡ j + (rowsLen s - j) = omega arith in
+    let f = sameAt (a .rows) (b .rows) in
+    let none : allBelow f (rowsLen s) ≡ false = ap (allBelow f) d ∙ all-split f j (rowsLen s - j) ∙ ap (λ (t : Bool). t && allBelow (λ k. f (j + k)) (rowsLen s - j)) h in
+    rw (alike, sameRows, none) (simp and-false)
+
+-- `many` rows from row r on, as they are lent
+abbrev lentRows : Size → (r many : ℕ) → List ℕ → List ℕ
+lentRows s r many w = take (headLen + coefsLen s + 3 * r + 3 * many - (headLen + coefsLen s + 3 * r)) (drop (headLen + coefsLen s + 3 * r) w)
+
+module _ (s : Size) (m : BranchMutation) (p e : List ℕ) (l : length p ≡ entryLen s) (r many : ℕ) where
+  abbrev at : ℕ
+  at = headLen + coefsLen s + 3 * r
+
+  pub lent-length : (w : List ℕ) → length w ≡ entryLen s → r + many ≤ 2 * s .n → length (lentRows s r many w) ≡ 3 * many
+  lent-length w h b =
+      let f : at + 3 * many - at ≡ 3 * many = omega arith in
+      length-take-le (at + 3 * many - at) (drop at w) (omega (arith, length-drop at w)) ∙ f
+
+  -- a word of these is a word of all
+  lent-word : (w : List ℕ) (k : ℕ) → k < 3 * many → getD (lentRows s r many w) k 0 ≡ getD (drop (headLen + coefsLen s) w) (3 * r + k) 0
+  lent-word w k h =
+      let f : headLen + coefsLen s + (3 * r + k) ≡ at + k = omega arith in
+      getD-take (at + 3 * many - at) (drop at w) k 0 (omega arith) ∙ getD-drop at w k 0
+      ∙ sym (getD-drop (headLen + coefsLen s) w (3 * r + k) 0 ∙ ap (λ (i : ℕ). getD w i 0) f)
+
+  lent-row : (i : ℕ) → i < many → rowAt (lentRows s r many p) i ≡ rowAt (bodyOf s p .rows) (r + i)
+  unfolding entryOf
+  lent-row i h =
+      let rows = drop (headLen + coefsLen s) p in
+      let x : 3 * r + 3 * i ≡ 3 * (r + i) = omega arith in
+      let z : 3 * r + (3 * i + 1) ≡ 3 * (r + i) + 1 = omega arith in
+      let q : 3 * r + (3 * i + 2) ≡ 3 * (r + i) + 2 = omega arith in
+      let phase = lent-word p (3 * i + 2) (omega arith) ∙ ap (λ (j : ℕ). getD rows j 0) q in
+      ap₂ (λ (a b : ℕ). record { x = a; z = b; phase = phaseAt (lentRows s r many p) i })
+      (lent-word p (3 * i) (omega arith) ∙ ap (λ (j : ℕ). getD rows j 0) x) (lent-word p (3 * i + 1) (omega arith) ∙ ap (λ (j : ℕ). getD rows j 0) z)
+      ∙ ap (λ (c : ℕ). record { x = xAt rows (r + i); z = zAt rows (r + i); phase = c }) phase
+
+  -- and of the flipped ones, of all flipped
+  flipped-word : (k : ℕ) → k < 3 * many → r + many ≤ 2 * s .n → getD (flippedRows m many (lentRows s r many p)) k 0 ≡ getD (changed s m p .rows) (3 * r + k) 0
+  unfolding flippedRows mapRows
+  flipped-word k h b =
+      let i = k / 3 in
+      let j = k % 3 in
+      let d : k ≡ 3 * (k / 3) + k % 3 = omega arith in
+      let g : 3 * (r + k / 3) + k % 3 ≡ 3 * r + k = omega arith in
+      let rows = bodyOf s p .rows in
+      ap (λ (x : ℕ). getD (flippedRows m many (lentRows s r many p)) x 0) d
+      ∙ wordsBelow-at 3 (λ (x : ℕ). rowWords (flippedRow m (rowAt (lentRows s r many p) x))) (λ x. refl) many i j (omega arith) (omega arith)
+      ∙ ap (λ (x : Row). getD (rowWords (flippedRow m x)) j 0) (lent-row i (omega arith))
+      ∙ sym (wordsBelow-at 3 (λ (x : ℕ). rowWords (flippedRow m (rowAt rows x))) (λ x. refl) (2 * s .n) (r + i) j (omega arith) (omega arith))
+      ∙ ap₂ (λ (y : List ℕ) (x : ℕ). getD y x 0) (sym (rows-are s m p l)) g
+
+  abbrev tests : ℕ → Bool
+  tests k = sameAt (drop (headLen + coefsLen s) e) (changed s m p .rows) k
+
+  module _ (b : r + many ≤ 2 * s .n) {ans : Bool} (h : ans ≡ allBelow (sameWord (lentRows s r many e) (flippedRows m many (lentRows s r many p))) (3 * many)) where
+    part-tested : allBelow tests (3 * (r + many)) ≡ (allBelow tests (3 * r) && ans)
+    part-tested =
+        let d : 3 * (r + many) ≡ 3 * r + 3 * many = omega arith in
+        ap (allBelow tests) d ∙ all-split tests (3 * r) (3 * many)
+        ∙ ap (λ (t : Bool). allBelow tests (3 * r) && t)
+        (sym (h ∙ all-alike _ _ (3 * many) (λ k c. ap₂ eqb (lent-word e k c) (flipped-word k c b))))
+
+    -- the rows so far are the same, and so are these
+    pub part-same : allBelow tests (3 * r) ≡ true → ans ≡ true → allBelow tests (3 * (r + many)) ≡ true
+    part-same f g = part-tested ∙ ap₂ (λ (x y : Bool). x && y) f g
+
+    -- these are not: nor are all
+    pub part-differs : (threshold : Float) → ans ≡ false → alike s threshold (bodyOf s e) (changed s m p) ≡ false
+    unfolding entryOf
+    part-differs threshold g =
+        let none : allBelow tests (3 * (r + many)) ≡ false = part-tested ∙ ap (λ (t : Bool). allBelow tests (3 * r) && t) g ∙ and-false (allBelow tests (3 * r)) in
+        unlike-part s threshold (bodyOf s e) (changed s m p) (3 * (r + many)) (omega arith) none
+
+-- the coefficients of an entry as they are lent
+pub coefs-length : (s : Size) (w : List ℕ) → length w ≡ entryLen s → length (take (headLen + coefsLen s - headLen) (drop headLen w)) ≡ coefsLen s
+coefs-length s w h =
+    let e : headLen + coefsLen s - headLen ≡ coefsLen s = omega arith in
+    length-take-le (headLen + coefsLen s - headLen) (drop headLen w) (omega (arith, length-drop headLen w)) ∙ e

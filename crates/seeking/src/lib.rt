@@ -1,0 +1,268 @@
+// The walk over stored keys for a branch that is not made yet: document 01, point 3. The full keys of the list's entries stand in an
+// array, and a table says from which place on a key can stand; the branch is its parent, changed. A list is given by the places of its
+// entries in the store: entry i stands at places[i] or, where no place is given, at place i.
+use model::BranchMutation;
+use model::Found;
+use model::Size;
+use store::Search;
+ghost use mathlib.Core.Path.{_≡_};
+ghost use mathlib.Core.List.{[]};
+ghost use Prim.Native.Nat.{_+_, _*_, _≤_, _<_};
+ghost use lib.ListN.{length, getD, set};
+ghost use Rattle.model.specs.Entries.{entryLen, entryOf, stretch, listed};
+ghost use Rattle.model.specs.Keys.{usualSalts, storedKey};
+ghost use Rattle.model.specs.Changes.{changedKeyed};
+ghost use Rattle.model.specs.Qubits.{QubitsBelow};
+ghost use Rattle.model.proofs.Packed.{Packed};
+ghost use Rattle.checks.specs.Sized.{Within};
+ghost use Rattle.store.specs.Branch.{Searched};
+ghost use Rattle.store.proofs.Walk.{Walking};
+ghost use Rattle.seeking.specs.Noted.{seenAt, SeenIn, gathered, slotOf, Lowered, Kept, Noted};
+
+// ---- the entries
+
+// Where entry i stands.
+pub fn place_of(places: &[usize], i: usize) -> usize
+    ensures { λ r. ⌜ r ≡ getD (now (places .entry)) i i ⌝ }
+{
+    if i < places.len() {
+        return places[i];
+    }
+    i
+}
+
+// Its words.
+pub fn entry_at<'a>(store: &'a [u64], places: &[usize], size: Size, i: usize) -> &'a [u64]
+    requires { ⌜ Within size × (getD (now places) i i * entryLen size + entryLen size ≤ length (now store)) ⌝ }
+    ensures { λ r. ⌜ (now r ≡ stretch size (now (store .entry)) (getD (now (places .entry)) i i)) × (length (now r) ≡ entryLen size) ⌝ }
+{
+    store::entry(store, size, place_of(places, i))
+}
+
+// ---- their keys
+
+// A key's place in the table.
+pub fn slot(key: u64) -> usize
+    ensures { λ r. ⌜ r ≡ slotOf key ⌝ }
+{
+    (key % 4096) as usize
+}
+
+// The lowest place that an entry with the key can have.
+pub fn first_place(firsts: &[u8; 4096], key: u64) -> usize
+    requires { ⌜ length (now firsts) ≡ 4096 ⌝ }
+    ensures { λ r. ⌜ r ≡ getD (now (firsts .entry)) (slotOf key) 0 ⌝ }
+{
+    let at = slot(key);
+    wide(firsts[at])
+}
+
+fn wide(place: u8) -> usize
+    ensures { λ r. ⌜ r ≡ place ⌝ }
+{
+    place as usize
+}
+
+// The key of the entry at place i.
+pub fn note(keys: &mut [u64; 256], firsts: &mut [u8; 4096], i: usize, key: u64)
+    requires { ⌜ (i < 256) × (length (now keys) ≡ 256) × (length (now firsts) ≡ 4096) ⌝ }
+    ensures { λ _. ⌜ (now (keys .exit) ≡ set (now (keys .entry)) i key) × Lowered (slotOf key) i (now (firsts .entry)) (now (firsts .exit)) ⌝ }
+{
+    keys[i] = key;
+    let at = slot(key);
+    let place = i as u8;
+    if place < firsts[at] {
+        firsts[at] = place;
+    }
+}
+
+// The keys of `count` entries. Of the table only its length matters: an entry's place is noted if it is lower.
+pub fn note_all(
+    keys: &mut [u64; 256],
+    firsts: &mut [u8; 4096],
+    store: &[u64],
+    places: &[usize],
+    size: Size,
+    count: usize,
+)
+    requires { ⌜ Within size × (count ≤ 256) × SeenIn size count (now places) (now store) × (length (now keys) ≡ 256) × (length (now firsts) ≡ 4096) ⌝ }
+    ensures { λ _. ⌜ Noted count (seenAt size (now (places .entry)) (now (store .entry))) (now (keys .exit)) (now (firsts .exit)) ⌝ }
+{
+    let mut i = 0;
+    while i < count {
+        let e = entry_at(store, places, size, i);
+        note(keys, firsts, i, e[2] ^ e[3]);
+        i += 1;
+    }
+}
+
+// ---- the search
+
+// Rows that are compared at a time: 16, or those that are left.
+fn few_of(left: usize) -> usize
+    requires { ⌜ 0 < left ⌝ }
+    ensures { λ r. ⌜ (0 < r) × (r ≤ left) × (r ≤ 16) ⌝ }
+{
+    if left < 16 {
+        return left;
+    }
+    16
+}
+
+// The walk from place `first` on, where no entry before that has the key: the first of the `count` entries that has it and is alike
+// with the changed entry at place `origin` of the store: equal loss (word 1), coefficient count (word 4) and rows, with the phases that
+// the mutation leaves, and each of its coefficients near. Only an entry with the key is compared in full, and its first difference ends
+// the comparison.
+fn walk_from(
+    store: &[u64],
+    places: &[usize],
+    keys: &[u64; 256],
+    size: Size,
+    count: usize,
+    threshold: f64,
+    origin: usize,
+    m: BranchMutation,
+    key: u64,
+    first: usize,
+) -> Search
+    requires { ⌜ Within size × (count ≤ 256) × SeenIn size count (now places) (now store) × Kept count (seenAt size (now places) (now store)) (now keys) ⌝ }
+    requires { ⌜ (origin * entryLen size + entryLen size ≤ length (now store)) × (entryOf size (stretch size (now store) origin) .entry .body .count ≤ size .k) × QubitsBelow 64 m × (key ≡ storedKey (changedKeyed usualSalts (size .n) m (entryOf size (stretch size (now store) origin)))) × Walking size threshold (changedKeyed usualSalts (size .n) m (entryOf size (stretch size (now store) origin))) (gathered count (seenAt size (now places) (now store))) 0 first ⌝ }
+    ensures { λ r. ⌜ Searched size threshold (changedKeyed usualSalts (size .n) m (entryOf size (stretch size (now (store .entry)) origin))) (gathered count (seenAt size (now (places .entry)) (now (store .entry)))) r ⌝ }
+{
+    let rows = 5 + 3 * size.k;
+    let row_count = 2 * size.n;
+    let limit = threshold * threshold;
+    let parent = store::entry(store, size, origin);
+    let mut compared = 0;
+    let mut i = first;
+    let found = 'keys: loop {
+        if count <= i {
+            break 'keys Found::Nothing;
+        }
+        let place = i;
+        i += 1;
+        if keys[place] != key {
+            continue 'keys;
+        }
+        compared += 1;
+        let e = entry_at(store, places, size, place);
+        if e[1] != branch::loss_after(m, parent[1]) {
+            continue 'keys;
+        }
+        if e[4] != parent[4] {
+            continue 'keys;
+        }
+        let f = branch::flip_of(m);
+        let mut r = 0;
+        while r < row_count {
+            let many = few_of(row_count - r);
+            let at = rows + 3 * r;
+            let end = at + 3 * many;
+            if branch::same_part(&e[at..end], &parent[at..end], many, f) {
+                r += many;
+            } else {
+                continue 'keys;
+            }
+        }
+        let coefs = &e[5..rows];
+        let parent_coefs = &parent[5..rows];
+        let coefficients = e[4] as usize;
+        let rises = likeness::indices_rise(parent_coefs, coefficients);
+        let mut c = 0;
+        while c < coefficients {
+            if likeness::near_by(coefs, parent_coefs, coefficients, c, limit, rises) {
+                c += 1;
+            } else {
+                continue 'keys;
+            }
+        }
+        break 'keys Found::At(place);
+    };
+    Search { found, compared }
+}
+
+// The search among `count` entries for one that is alike with the changed entry at place `origin` of the store, whose key this is.
+pub fn seek(
+    store: &[u64],
+    places: &[usize],
+    keys: &[u64; 256],
+    firsts: &[u8; 4096],
+    size: Size,
+    count: usize,
+    threshold: f64,
+    origin: usize,
+    m: BranchMutation,
+    key: u64,
+) -> Search
+    requires { ⌜ Within size × (count ≤ 256) × SeenIn size count (now places) (now store) × Noted count (seenAt size (now places) (now store)) (now keys) (now firsts) ⌝ }
+    requires { ⌜ (origin * entryLen size + entryLen size ≤ length (now store)) × (entryOf size (stretch size (now store) origin) .entry .body .count ≤ size .k) × QubitsBelow 64 m × (key ≡ storedKey (changedKeyed usualSalts (size .n) m (entryOf size (stretch size (now store) origin)))) ⌝ }
+    ensures { λ r. ⌜ Searched size threshold (changedKeyed usualSalts (size .n) m (entryOf size (stretch size (now (store .entry)) origin))) (gathered count (seenAt size (now (places .entry)) (now (store .entry)))) r ⌝ }
+{
+    let first = first_place(firsts, key);
+    if count <= first {
+        return Search {
+            found: Found::Nothing,
+            compared: 0,
+        };
+    }
+    walk_from(
+        store,
+        places,
+        keys,
+        size,
+        count,
+        threshold,
+        origin,
+        m,
+        key,
+        first,
+    )
+}
+
+// ---- the list that the store lists: each entry stands at its own place
+
+// The keys of its entries.
+pub fn note_listed(
+    keys: &mut [u64; 256],
+    firsts: &mut [u8; 4096],
+    store: &[u64],
+    size: Size,
+    count: usize,
+)
+    requires { ⌜ Packed size count (now store) × (length (now keys) ≡ 256) × (length (now firsts) ≡ 4096) ⌝ }
+    ensures { λ _. ⌜ Noted count (seenAt size [] (now (store .entry))) (now (keys .exit)) (now (firsts .exit)) ⌝ }
+{
+    let own = [0usize; 1];
+    note_all(keys, firsts, store, &own[..0], size, count);
+}
+
+// The search among them.
+pub fn seek_listed(
+    store: &[u64],
+    keys: &[u64; 256],
+    firsts: &[u8; 4096],
+    size: Size,
+    count: usize,
+    threshold: f64,
+    origin: usize,
+    m: BranchMutation,
+    key: u64,
+) -> Search
+    requires { ⌜ Within size × (count ≤ 256) × (count * entryLen size ≤ length (now store)) × Noted count (seenAt size [] (now store)) (now keys) (now firsts) ⌝ }
+    requires { ⌜ (origin * entryLen size + entryLen size ≤ length (now store)) × (entryOf size (stretch size (now store) origin) .entry .body .count ≤ size .k) × QubitsBelow 64 m × (key ≡ storedKey (changedKeyed usualSalts (size .n) m (entryOf size (stretch size (now store) origin)))) ⌝ }
+    ensures { λ r. ⌜ Searched size threshold (changedKeyed usualSalts (size .n) m (entryOf size (stretch size (now (store .entry)) origin))) (listed size count (now (store .entry))) r ⌝ }
+{
+    let own = [0usize; 1];
+    seek(
+        store,
+        &own[..0],
+        keys,
+        firsts,
+        size,
+        count,
+        threshold,
+        origin,
+        m,
+        key,
+    )
+}
