@@ -98,15 +98,15 @@ pub fn note_all(
 
 // ---- the search
 
-// Rows that are compared at a time: 16, or those that are left.
+// Rows that are compared at a time: 64, or those that are left.
 fn few_of(left: usize) -> usize
     requires { ⌜ 0 < left ⌝ }
-    ensures { λ r. ⌜ (0 < r) × (r ≤ left) × (r ≤ 16) ⌝ }
+    ensures { λ r. ⌜ (0 < r) × (r ≤ left) × (r ≤ 64) ⌝ }
 {
-    if left < 16 {
+    if left < 64 {
         return left;
     }
-    16
+    64
 }
 
 // The walk from place `first` on, where no entry before that has the key: the first of the `count` entries that has it and is alike
