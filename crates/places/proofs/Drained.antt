@@ -1,8 +1,8 @@
 -- Entries that leave a list given by places, from the highest down: where one leaves, the last place takes its turn. Assumes nothing.
-use mathlib.Core.Path.{_≡_, refl, sym, ap, _∙_}
+use mathlib.Core.Path.{_≡_, sym, ap, _∙_}
 use mathlib.Core.Bool.{Bool, true, false, cond}
 use mathlib.Core.List.{List, [], _∷_, _++_, map}
-use Prim.Native.Nat.{ℕ, zero, suc, _-_, _≤_, _<_}
+use Prim.Native.Nat.{ℕ, suc, _-_, _≤_, _<_}
 use native.Mathlib.Omega.{arith}
 use lib.ListN.{length, take, getD, set, length-map}
 use lib.Seq.{drop-cons, take-set-lt, take-take, getD-take, length-take-le}
@@ -11,12 +11,7 @@ use Rattle.model.specs.Store.{Split}
 use Rattle.model.specs.Reset.{leavingAt, leftAt, drained}
 use Rattle.model.proofs.Lists.{getD-mapped}
 use Rattle.model.proofs.Merging.{map-take}
-
-map-set : {X Y : Type 0} (f : X → Y) (l : List X) (i : ℕ) (x : X) → map f (set l i x) ≡ set (map f l) i (f x)
-map-set f [] zero x = refl
-map-set f [] (suc i) x = refl
-map-set f (y ∷ l) zero x = refl
-map-set {Y = Y} f (y ∷ l) (suc i) x = ap (λ (t : List Y). f y ∷ t) (map-set f l i x)
+use Rattle.places.proofs.Exchange.{map-set}
 
 module _ {Y : Type 0} (p : Y → Bool) where
   -- what the definition makes of the one that leaves, if one does

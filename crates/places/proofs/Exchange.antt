@@ -54,7 +54,7 @@ module _ {X : Type 0} (l : List X) (a b : ℕ) (ne : a ≡ b → ⊥) where
   pub others-there : (p q d : X) (i : ℕ) → (i ≡ a → ⊥) → (i ≡ b → ⊥) → getD (set (set l a p) b q) i d ≡ getD l i d
   others-there p q d i f g = getD-set-other (set l a p) b i q d g ∙ getD-set-other l a i p d f
 
-map-set : {X Y : Type 0} (f : X → Y) (l : List X) (i : ℕ) (x : X) → map f (set l i x) ≡ set (map f l) i (f x)
+pub map-set : {X Y : Type 0} (f : X → Y) (l : List X) (i : ℕ) (x : X) → map f (set l i x) ≡ set (map f l) i (f x)
 map-set f [] zero x = refl
 map-set f [] (suc i) x = refl
 map-set f (y ∷ l) zero x = refl

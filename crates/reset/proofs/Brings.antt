@@ -9,15 +9,15 @@ use native.Mathlib.Numerals.{add-one}
 use native.Mathlib.Omega.{arith}
 use lib.Dec.{leb}
 use lib.Ieee.{Float}
-use lib.ListN.{length, take, drop, getD, length-map, drop-of-length-le}
-use lib.Seq.{length-take-le, getD-take, drop-cons}
+use lib.ListN.{length, drop, getD, drop-of-length-le}
+use lib.Seq.{drop-cons}
 use borrow.Author.Tests.{leb-true}
 use Rattle.model.specs.Entries.{Keyed, entryLen, entryOf, stretch, listed}
 use Rattle.model.specs.Keys.{usualSalts}
 use Rattle.model.specs.Store.{Tally, begun, walk, merge, mergeAll, testedAll, howMany, aboveCutoff}
 use Rattle.model.specs.Calls.{engine}
 use Rattle.model.specs.declared.Size.{Size}
-use Rattle.model.proofs.Lists.{every-at, getD-mapped}
+use Rattle.model.proofs.Lists.{every-at}
 use Rattle.model.proofs.Entries.{length-listed, listed-at}
 use Rattle.model.proofs.Groups.{stride-le}
 use Rattle.model.proofs.Packed.{Packed, within}
@@ -35,19 +35,9 @@ use Rattle.merging.specs.Progress.{Light, after, started}
 use Rattle.merging.specs.declared.Progress.{Progress}
 use Rattle.merging.proofs.Went.{count-after}
 use Rattle.reset.specs.Return.{fewCoefficients, live, liveAt, Returned, tallyOn, Brought}
+use Rattle.reset.proofs.Returning.{picked-long, picked-at}
 
 -- ---- entries picked by their places
-
-module _ (s : Size) (m : ℕ) (places w : List ℕ) (h : m ≤ length places) where
-  length-picked : length (picked s m places w) ≡ m
-  unfolding picked
-  length-picked = length-map (take m places) (λ (i : ℕ). entryOf s (stretch s w i)) ∙ length-take-le m places h
-
-  picked-at : (k : ℕ) (d : Keyed) → k < m → getD (picked s m places w) k d ≡ entryOf s (stretch s w (getD places k 0))
-  unfolding picked
-  picked-at k d b =
-      getD-mapped (λ (i : ℕ). entryOf s (stretch s w i)) (take m places) k 0 d (omega (arith, length-take-le m places h))
-      ∙ ap (λ (i : ℕ). entryOf s (stretch s w i)) (getD-take m places k 0 b)
 
 -- places of listed entries lie in the store
 pub picked-in : {s : Size} {total m : ℕ} {places w : List ℕ} → Packed s total w → m ≤ length places → Distinct total m places → SeenIn s m places w
@@ -150,7 +140,7 @@ module _ (s : Size) (threshold cutoff : Float) (q stay total : ℕ) (order₀ le
     to-come : map (live s q) (drop j outs) ≡ branch ∷ map (live s q) (drop (j + 1) outs)
     to-come =
         let d = entryOf s [] in
-        ap (map (live s q)) (drop-cons outs j d (omega (arith, length-picked s out left w₀ long-left)))
+        ap (map (live s q)) (drop-cons outs j d (omega (arith, picked-long s out left w₀ long-left)))
         ∙ ap₂ (λ (e : Keyed) (k : ℕ). live s q e ∷ map (live s q) (drop k outs)) (picked-at s out left w₀ long-left j d h ∙ sym (t .still j (omega arith) h)) (sym (add-one j))
 
     module _ (order′ w′ keys′ firsts′ : List ℕ) (r : Settled) (m : Returned s total (p .count) threshold cutoff place branch order w order′ w′ keys′ firsts′ r) where
@@ -160,7 +150,7 @@ module _ (s : Size) (threshold cutoff : Float) (q stay total : ℕ) (order₀ le
       pub few-tested : r .compared ≤ 256
       few-tested =
           let n : p .count ≤ length order = omega (arith, t .long, room-there, at-most (t .packed)) in
-          omega (arith, m .tested, tested-few s threshold branch 0 (picked s (p .count) order w), length-picked s (p .count) order w n)
+          omega (arith, m .tested, tested-few s threshold branch 0 (picked s (p .count) order w), picked-long s (p .count) order w n)
 
       abbrev next : Progress
       next = after (r .fate) p (r .compared)
@@ -211,7 +201,7 @@ module _ (s : Size) (threshold cutoff : Float) (q stay total : ℕ) (order₀ le
 
   module _ (l : length left ≡ 256) (b : stay ≤ total) (p : Progress) (order w keys firsts : List ℕ) (t : Bringing out p order w keys firsts) where
     none-left : drop out outs ≡ []
-    none-left = drop-of-length-le outs {i = out} (omega (arith, length-picked s out left w₀ (omega (arith, at-most (t .packed)))))
+    none-left = drop-of-length-le outs {i = out} (omega (arith, picked-long s out left w₀ (omega (arith, at-most (t .packed)))))
 
     pub all-brought : Brought s total threshold cutoff ins (map (live s q) outs) p order w
     unfolding mergeAll testedAll howMany

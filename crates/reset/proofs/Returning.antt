@@ -3,8 +3,8 @@
 use mathlib.Core.Path.{_≡_, refl, sym, ap, ap₂, _∙_}
 use mathlib.Core.Bool.{true, false}
 use mathlib.Core.List.{List, [], _∷_, _++_, map, map-append}
-use Prim.Native.Nat.{ℕ, suc, zero, _+_, _*_, _≤_, _<_}
-use native.Mathlib.Nat.{not-suc-le-zero, le-of-suc-le-suc, add-zero}
+use Prim.Native.Nat.{ℕ, _+_, _*_, _≤_, _<_}
+use native.Mathlib.Nat.{add-zero}
 use native.Mathlib.Numerals.{add-one}
 use native.Mathlib.Omega.{arith}
 use lib.Ieee.{Float}
@@ -33,17 +33,18 @@ use Rattle.store.specs.declared.Fate.the-variants.{Merged, Stored, Dropped, NoR
 use Rattle.store.specs.declared.Search.{Search}
 use Rattle.store.proofs.Walk.{found-below}
 use Rattle.seeking.specs.Noted.{seenAt, SeenIn, gathered, slotOf, Lowered, Noted}
+use Rattle.store.proofs.Merge.{altered-is}
 use Rattle.seeking.proofs.Noting.{given, length-gathered, gathered-at, SameKeys, still-noted, one-noted}
 use Rattle.reset.specs.Return.{liveAt, Returned}
 
 -- ---- the entries at the first m places
 
 module _ (s : Size) (m : ℕ) (order w : List ℕ) (h : m ≤ length order) where
-  picked-long : length (picked s m order w) ≡ m
+  pub picked-long : length (picked s m order w) ≡ m
   unfolding picked
   picked-long = length-map (take m order) (entryAt s w) ∙ length-take-le m order h
 
-  picked-at : (u : ℕ) (d : Keyed) → u < m → getD (picked s m order w) u d ≡ entryAt s w (getD order u 0)
+  pub picked-at : (u : ℕ) (d : Keyed) → u < m → getD (picked s m order w) u d ≡ entryAt s w (getD order u 0)
   unfolding picked
   picked-at u d l = getD-mapped (entryAt s w) (take m order) u 0 d (omega (arith, length-take-le m order h)) ∙ ap (entryAt s w) (getD-take m order u 0 l)
 
@@ -112,12 +113,6 @@ module _ (s : Size) (total : ℕ) (w w′ : List ℕ) (p : ℕ) (e : Keyed) (l :
           ∙ ap₂ (λ (es : List Keyed) (x : Keyed). es ++ x ∷ []) picked-same (there b)
 
 -- ---- one entry
-
-altered-is : {X : Type 0} (f : X → X) (i : ℕ) (l : List X) (d : X) → i < length l → altered f i l ≡ set l i (f (getD l i d))
-unfolding altered
-altered-is f i [] d h = absurd (not-suc-le-zero h)
-altered-is f zero (x ∷ l) d h = refl
-altered-is f (suc i) (x ∷ l) d h = ap (λ (t : List _). x ∷ t) (altered-is f i l d (le-of-suc-le-suc h))
 
 -- the weight of the entry at place i is the first of its words
 pub weight-word : (s : Size) (len i : ℕ) (w : List ℕ) → len ≡ entryLen s → getD w (i * len) 0 ≡ weightOf keyedWeighed (entryAt s w i)

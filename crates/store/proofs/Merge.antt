@@ -55,7 +55,7 @@ merge-adds H admit b t = settled-adds (H .weighed) b t admit (H .find b (t .entr
 
 -- ---- one word of an entry, and one entry of a list
 
-altered-is : {X : Type 0} (f : X → X) (i : ℕ) (l : List X) (d : X) → i < length l → altered f i l ≡ set l i (f (getD l i d))
+pub altered-is : {X : Type 0} (f : X → X) (i : ℕ) (l : List X) (d : X) → i < length l → altered f i l ≡ set l i (f (getD l i d))
 unfolding altered
 altered-is f i [] d h = absurd (not-suc-le-zero h)
 altered-is f zero (x ∷ l) d h = refl
