@@ -11,7 +11,7 @@ use lib.Seq.{getD-set-same, getD-set-other}
 use Rattle.model.specs.Keys.{pick, rowMask, maskSum, xBit, zBit}
 use Rattle.model.specs.declared.Salts.{Salts}
 use Rattle.keys.specs.Deltas.{SignMasks, deltaTable}
-use Rattle.keys.proofs.Flips.{i-masks, deltas-at}
+use Rattle.keys.proofs.Flips.{i-masks, x-masks, y-masks, z-masks}
 
 -- m times a bit
 pub pick-times : (b m : ℕ) → b < 2 → m * b ≡ pick b m
@@ -47,6 +47,4 @@ module _ (s : Salts) where
 pub table-is : (s : Salts) (n : ℕ) (rows : List ℕ) (q : ℕ) {dx dz : ℕ} → dx ≡ maskSum (s .sign) (2 * n) (zBit rows q) → dz ≡ maskSum (s .sign) (2 * n) (xBit rows q)
     → 0 ∷ dx ∷ bitXor dx dz ∷ dz ∷ [] ≡ deltaTable s n rows q
 unfolding deltaTable
-table-is s n rows q ex ez =
-    let d = deltas-at s n rows q ex ez in
-    cc (i-masks s n rows q, d .x, d .y, d .z)
+table-is s n rows q ex ez = cc (i-masks s n rows q, x-masks s n rows q, y-masks s n rows q, z-masks s n rows q, ex, ez)

@@ -1,6 +1,6 @@
 -- What Paulis flip: each flips a row or not, so the masks of what Y flips, or of what two Paulis flip, are the XOR of two sums of masks.
 -- Assumes nothing.
-use mathlib.Core.Path.{_≡_, sym, ap₂, _∙_}
+use mathlib.Core.Path.{_≡_, refl, _∙_}
 use mathlib.Core.List.{List}
 use Prim.Native.Nat.{ℕ, _*_, _<_}
 use native.Mathlib.Omega.{arith}
@@ -12,8 +12,6 @@ use Rattle.model.specs.declared.BranchMutation.the-variants.{Pauli as pauli, Pa
 use Rattle.model.specs.declared.Pauli.{Pauli}
 use Rattle.model.specs.declared.Pauli.the-variants.{I, X, Y, Z}
 use Rattle.model.specs.declared.Salts.{Salts}
-use Rattle.keys.specs.Deltas.{DeltasAt, deltaOf}
-use Rattle.keys.specs.declared.Deltas.{Deltas}
 use Rattle.model.proofs.Picks.{bit-lt}
 use Rattle.model.proofs.Sums.{maskSum-clear, maskSum-xor}
 
@@ -39,22 +37,19 @@ module _ (s : Salts) (n : ℕ) (rows : List ℕ) where
     unfolding flipMasks flipsBy flips
     i-masks = maskSum-clear (s .sign) (2 * n)
 
-    -- X flips the rows with z set at q, Z those with x, Y those that X or Z flips and not both
-    pub deltas-at : {dx dz : ℕ} → dx ≡ maskSum (s .sign) (2 * n) (zBit rows q) → dz ≡ maskSum (s .sign) (2 * n) (xBit rows q)
-        → DeltasAt s n rows q (record { x = dx; y = bitXor dx dz; z = dz })
+    -- X flips the rows with z set at q
+    pub x-masks : flipMasks s n (pauli X q) rows ≡ maskSum (s .sign) (2 * n) (zBit rows q)
     unfolding flipMasks flipsBy flips
-    deltas-at {dx} {dz} ex ez =
-        record {
-          x = ex;
-          y =
-              xor-comm dx dz ∙ ap₂ bitXor ez ex
-              ∙ sym (maskSum-xor (s .sign) (2 * n) (xBit rows q) (zBit rows q) (λ r. bit-lt q (xAt rows r)) (λ r. bit-lt q (zAt rows r)));
-          z = ez;
-        }
+    x-masks = refl
 
-    -- what is taken out for a Pauli is its masks
-    pub delta-masks : (d : Deltas) → DeltasAt s n rows q d → (p : Pauli) → deltaOf d p ≡ flipMasks s n (pauli p q) rows
-    delta-masks d h I = sym i-masks
-    delta-masks d h X = h .x
-    delta-masks d h Y = h .y
-    delta-masks d h Z = h .z
+    -- Z those with x set
+    pub z-masks : flipMasks s n (pauli Z q) rows ≡ maskSum (s .sign) (2 * n) (xBit rows q)
+    unfolding flipMasks flipsBy flips
+    z-masks = refl
+
+    -- Y those that X or Z flips and not both
+    pub y-masks : flipMasks s n (pauli Y q) rows ≡ bitXor (maskSum (s .sign) (2 * n) (zBit rows q)) (maskSum (s .sign) (2 * n) (xBit rows q))
+    unfolding flipMasks flipsBy flips
+    y-masks =
+        maskSum-xor (s .sign) (2 * n) (xBit rows q) (zBit rows q) (λ r. bit-lt q (xAt rows r)) (λ r. bit-lt q (zAt rows r))
+        ∙ xor-comm (maskSum (s .sign) (2 * n) (xBit rows q)) (maskSum (s .sign) (2 * n) (zBit rows q))

@@ -5,14 +5,9 @@ ghost use lib.Bits.{bitXor};
 ghost use lib.ListN.{length};
 ghost use Rattle.model.specs.Entries.{xAt, zAt, phaseAt};
 ghost use Rattle.model.specs.Keys.{usualSalts, mix, rowMask, bit, pick, xBit, zBit, maskSum, phaseMask, phaseKey, phaseLossKey, absorb, wordKey};
-ghost use Rattle.model.specs.Changes.{flipMasks, masksOf};
-ghost use Rattle.model.specs.declared.BranchMutation.the-variants.{Pauli as pauli};
-ghost use Rattle.keys.specs.Deltas.{DeltasAt, deltaOf, SignMasks, deltaTable};
+ghost use Rattle.keys.specs.Deltas.{SignMasks, deltaTable};
 ghost use Rattle.keys.specs.Tables.{PhaseMasks, KeysOfFour};
 ghost use Rattle.model.specs.declared.Salts.{Salts};
-ghost use Rattle.model.specs.Qubits.{QubitsBelow};
-use model::BranchMutation;
-use model::Pauli;
 use model::Salts;
 
 const GOLDEN: u64 = 0x9E37_79B9_7F4A_7C15;
@@ -247,13 +242,6 @@ pub fn full_key(salts: Salts, n: usize, rows: &[u64], loss: u64) -> u64
 
 // ---- what a change to an entry changes of its phase-loss key
 
-// By how much X, Y and Z at a qubit change the phase-loss key. I changes nothing.
-pub struct Deltas {
-    pub x: u64,
-    pub y: u64,
-    pub z: u64,
-}
-
 // m if the bit is 1, else 0.
 pub fn select(b: u64, m: u64) -> u64
     ensures { λ r. ⌜ r ≡ pick b m ⌝ }
@@ -277,64 +265,6 @@ pub fn z_bit(rows: &[u64], i: usize, q: usize) -> u64
     (rows[3 * i + 1] >> q) % 2
 }
 
-// In one pass: X flips the rows with z set at q, Z those with x. What Y flips, X or Z flips and not both.
-pub fn pauli_deltas(salts: Salts, n: usize, rows: &[u64], q: usize) -> Deltas
-    requires { ⌜ (q < 64) × (n ≤ 64) × (3 * (2 * n) ≤ length (now rows)) ⌝ }
-    ensures { λ r. ⌜ DeltasAt salts n (now (rows .entry)) q r ⌝ }
-{
-    let m = 2 * n;
-    let mut dx: u64 = 0;
-    let mut dz: u64 = 0;
-    let mut i: usize = 0;
-    while i < m {
-        let mask = sign_mask(salts, i);
-        dz = dz ^ select(x_bit(rows, i, q), mask);
-        dx = dx ^ select(z_bit(rows, i, q), mask);
-        i += 1;
-    }
-    Deltas {
-        x: dx,
-        y: dx ^ dz,
-        z: dz,
-    }
-}
-
-// The delta of one Pauli; that of I is 0.
-pub fn delta_of(d: Deltas, p: Pauli) -> u64
-    ensures { λ r. ⌜ r ≡ deltaOf d p ⌝ }
-{
-    match p {
-        Pauli::I => 0,
-        Pauli::X => d.x,
-        Pauli::Y => d.y,
-        Pauli::Z => d.z,
-    }
-}
-
-// The masks of the rows that one Pauli at qubit q flips.
-pub fn pauli_delta(salts: Salts, n: usize, rows: &[u64], p: Pauli, q: usize) -> u64
-    requires { ⌜ (q < 64) × (n ≤ 64) × (3 * (2 * n) ≤ length (now rows)) ⌝ }
-    ensures { λ r. ⌜ r ≡ flipMasks salts n (pauli p q) (now (rows .entry)) ⌝ }
-{
-    delta_of(pauli_deltas(salts, n, rows, q), p)
-}
-
-// The masks of what a branch changes of its parent.
-pub fn mutation_delta(salts: Salts, n: usize, rows: &[u64], m: BranchMutation) -> u64
-    requires { ⌜ (n ≤ 64) × (3 * (2 * n) ≤ length (now rows)) × QubitsBelow 64 m ⌝ }
-    ensures { λ r. ⌜ r ≡ masksOf salts n m (now (rows .entry)) ⌝ }
-{
-    match m {
-        BranchMutation::Pauli(p, q) => pauli_delta(salts, n, rows, p, q),
-        BranchMutation::Pair(p, a, o, b) => {
-            let first = pauli_delta(salts, n, rows, p, a);
-            let second = pauli_delta(salts, n, rows, o, b);
-            first ^ second
-        }
-        BranchMutation::Loss(q) => loss_mask(salts, q),
-    }
-}
-
 // The loss word with qubit q lost if it was live, and live if it was lost.
 pub fn toggle_loss(loss: u64, q: usize) -> u64
     requires { ⌜ q < 64 ⌝ }
@@ -342,8 +272,6 @@ pub fn toggle_loss(loss: u64, q: usize) -> u64
 {
     loss ^ (1 << q)
 }
-
-// ---- the same for many branches: the masks are worked out once, and a parent's rows are walked once a qubit
 
 // The sign masks of the first m rows.
 pub fn sign_masks(salts: Salts, m: usize) -> [u64; 128]
@@ -367,7 +295,8 @@ pub fn times_bit(b: u64, m: u64) -> u64
     m * b
 }
 
-// By how much I, X, Y and Z at qubit q change the phase-loss key, by the sign masks of the 2n rows.
+// By how much I, X, Y and Z at qubit q change the phase-loss key, in one pass, by the sign masks of the 2n rows. X flips the rows with z set
+// at q, Z those with x. What Y flips, X or Z flips and not both.
 pub fn delta_table(masks: &[u64; 128], n: usize, rows: &[u64], q: usize) -> [u64; 4]
     requires { ⌜ (q < 64) × (n ≤ 64) × (3 * (2 * n) ≤ length (now rows)) ⌝ }
     ensures { λ r. ⌜ ((s : Salts) → SignMasks s (2 * n) (now (masks .entry)) → r ≡ deltaTable s n (now (rows .entry)) q) ⌝ }
