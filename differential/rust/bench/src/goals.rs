@@ -1,6 +1,8 @@
 //! Each kind of row beside its goal, and the check of the whole store beside the speed of a plain loop.
 
 use crate::Measured;
+use std::hint::black_box;
+use std::time::Instant;
 
 /// The most that our time may be of the Rust's, with just enough capacity; none for what the Rust does without a look at the store.
 fn goal(name: &str) -> Option<f64> {
@@ -56,9 +58,21 @@ fn by_kind(title: &str, rows: &[&Measured]) {
     }
 }
 
+/// How fast a plain loop reads memory itself: far more words than the caches hold. The best of ten, in GB/s.
+fn memory() -> f64 {
+    let words = vec![1u64; 64 << 20];
+    let once = |_| {
+        let begun = Instant::now();
+        black_box(black_box(&words).iter().fold(0, |any, w| any | w));
+        words.len() as f64 * 8.0 / begun.elapsed().as_nanos() as f64
+    };
+    (0..10).map(once).fold(0.0, f64::max)
+}
+
 /// How near the check comes to a plain loop over the same words, by the size of the store.
 fn check(all: &[Measured]) {
-    println!("\nThe check of the whole store, beside a plain loop that reads the same words (GB/s, medians)");
+    println!("\nA plain loop reads memory at {:.1} GB/s.", memory());
+    println!("The check of the whole store, beside a plain loop that reads the same words, from the caches too (GB/s, medians)");
     let rows: Vec<&Measured> = all.iter().filter(|m| m.name == "truncate, none goes").collect();
     for m in rows {
         let speed = |ns: f64| m.words as f64 * 8.0 / ns;
