@@ -1,3 +1,4 @@
 pub mod Value
 pub mod Rising
 pub mod Alike
+pub mod Near

@@ -3,10 +3,11 @@ ghost use mathlib.Core.Path.{_≡_};
 ghost use mathlib.Core.Bool.{true};
 ghost use Prim.Native.Nat.{_+_, _*_, _≤_};
 ghost use lib.ListN.{length, getD};
-ghost use Rattle.model.specs.Floats.{float};
+ghost use Rattle.model.specs.Floats.{float, finite};
 ghost use Rattle.model.specs.Entries.{Body, entryLen, entryOf, reAt, imAt};
 ghost use Rattle.model.specs.Likeness.{valueAt, nearAt, alike};
 ghost use Rattle.likeness.specs.Rising.{rising, Rises};
+ghost use Rattle.likeness.specs.Same.{SameFinite};
 
 // A complex number.
 pub struct Amplitude {
@@ -68,6 +69,36 @@ pub fn value_by(coefs: &[u64], count: usize, index: u64, j: usize, rises: bool) 
     value_at(coefs, count, index)
 }
 
+// The bits are those of a finite number: the exponent's field is not all ones.
+fn finite_bits(w: u64) -> bool
+    ensures { λ r. ⌜ r ≡ finite (float w) ⌝ }
+{
+    (w >> 52) % 2048 != 2047
+}
+
+// Coefficient j is the same in both, word by word, and finite.
+fn same_finite(existing: &[u64], other: &[u64], j: usize) -> bool
+    requires { ⌜ (3 * j + 3 ≤ length (now existing)) × (3 * j + 3 ≤ length (now other)) ⌝ }
+    ensures { λ r. ⌜ (r ≡ true → SameFinite (now (existing .entry)) (now (other .entry)) j) ⌝ }
+{
+    let at = 3 * j;
+    let re = other[at + 1];
+    let im = other[at + 2];
+    if existing[at] != other[at] {
+        return false;
+    }
+    if existing[at + 1] != re {
+        return false;
+    }
+    if existing[at + 2] != im {
+        return false;
+    }
+    if finite_bits(re) {
+        return finite_bits(im);
+    }
+    false
+}
+
 // Coefficient j of the existing entry, less the other's value at its index, has re² + im² below the limit. Given are the
 // coefficients of both, how many the other has, and whether its indices are known to rise: it is the answer for any two bodies
 // that have these.
@@ -84,6 +115,11 @@ pub fn near_by(
     requires { ⌜ (rises ≡ true → Rises (now other) count j) ⌝ }
     ensures { λ r. ⌜ ((a b : Body) → a .coefs ≡ now (existing .entry) → b .coefs ≡ now (other .entry) → b .count ≡ count → r ≡ nearAt limit a b j) ⌝ }
 {
+    if rises {
+        if same_finite(existing, other, j) {
+            return 0.0 < limit;
+        }
+    }
     let at = 3 * j;
     let value = value_by(other, count, existing[at], j, rises);
     let re = words::float_of(existing[at + 1]) - value.re;

@@ -1,22 +1,20 @@
--- `likeness::near_by` meets its contract. The comparison is the definition's, on what the calls ensure. Assumes nothing.
-use mathlib.Core.Path.{_≡_}
-use Prim.Native.Nat.{ℕ}
-use mathlib.Core.List.{List}
-use lib.Ieee.{Float, lt}
+-- `likeness::near_by` meets its contract. The comparison is the definition's, on what the calls ensure; of a coefficient that is the same
+-- in both it is known. Assumes nothing.
+use native.Mathlib.Omega.{arith}
 use borrow.Author.Needs.{needs}
-use Rattle.model.specs.Floats.{float, plus, minus}
-use Rattle.model.specs.Entries.{Body, indexAt, reAt, imAt}
-use Rattle.model.specs.Likeness.{valueAt, square, nearAt}
+use Rattle.likeness.proofs.Near.{compared, compared-same}
 use Rattle.likeness.proofs.near_by.Statement.{statement}
 use Rattle.likeness.proofs.near_by.Tie as tie
 
-compared : (limit : Float) (a b : Body) (j : ℕ) {x y : List ℕ} {count : ℕ} {re im re′ im′ : Float}
-    → a .coefs ≡ x → b .coefs ≡ y → b .count ≡ count
-    → re ≡ float (reAt x j) → im ≡ float (imAt x j)
-    → re′ ≡ float (valueAt reAt y (indexAt x j) count) → im′ ≡ float (valueAt imAt y (indexAt x j) count)
-    → lt (plus (square (minus re re′)) (square (minus im im′))) limit ≡ nearAt limit a b j
-unfolding nearAt
-compared limit a b j ea eb ec hr hi hr′ hi′ = rw (ea, eb, ec, hr, hi, hr′, hi′)
+same-finite-requires : tie.Need-same-finite-requires
+same-finite-requires c κs =
+    let a = c .before .before .before in
+    (search needs, omega (arith, a .pre .1 .1 (c .if1 .taken) .0))
+
+returns : tie.Need-returns
+returns c a b ea eb ec =
+    let then = c .before .before in
+    compared-same _ a b _ ea eb ec (then .before .before .before .pre .1 .1 (then .if1 .taken)) (c .before .same-finite .ensures (c .if2 .taken))
 
 mul-at : tie.Need-mul-at
 mul-at c = search needs
@@ -54,8 +52,8 @@ shared-slice-read-float-of-2 c = search needs
 float-of-requires-2 : tie.Need-float-of-requires-2
 float-of-requires-2 c κs = search needs
 
-returns : tie.Need-returns
-returns c a b ea eb ec =
+returns-2 : tie.Need-returns-2
+returns-2 c a b ea eb ec =
     let v = c .before .before .before .before .before .before .value-by in
     compared _ a b _ ea eb ec (c .before .before .before .before .float-of .ensures) (c .before .float-of2 .ensures) (v .ensures .0) (v .ensures .1)
 
@@ -63,6 +61,8 @@ pub near-by-spec : {M : Type 1} → statement M
 near-by-spec =
     tie.close
     (tie.spec
+    same-finite-requires
+    returns
     mul-at
     mul-value-by
     shared-slice-read-value-by
@@ -75,4 +75,4 @@ near-by-spec =
     mul-float-of-2
     shared-slice-read-float-of-2
     float-of-requires-2
-    returns)
+    returns-2)
