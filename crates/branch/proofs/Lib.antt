@@ -6,3 +6,4 @@ pub mod Kept
 pub mod Same
 pub mod Slot
 pub mod Made
+pub mod Parts

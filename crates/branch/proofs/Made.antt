@@ -1,5 +1,5 @@
 -- A branch of a parent with as many words as the size says is such an entry too, so its words hold it. Assumes nothing.
-use mathlib.Core.Path.{_≡_, refl}
+use mathlib.Core.Path.{_≡_}
 use mathlib.Core.List.{List}
 use Prim.Native.Nat.{ℕ}
 use lib.ListN.{length}
@@ -23,22 +23,11 @@ module _ (salts : Salts) (s : Size) where
   changed-fits (pair p a o b) e f = record { coefs = f .coefs; rows = mapRows-length (s .n) (flippedRow (pair p a o b)) (e .entry .body .rows) }
   changed-fits (loss q) e f = record { coefs = f .coefs; rows = f .rows }
 
-  -- and the coefficient count
-  pub changed-count : (c : BranchMutation) (e : Keyed) → changedKeyed salts (s .n) c e .entry .body .count ≡ e .entry .body .count
-  unfolding changedKeyed changedEntry changedBody
-  changed-count (pauli p q) e = refl
-  changed-count (pair p a o b) e = refl
-  changed-count (loss q) e = refl
-
 -- the branch that `make_branch` makes
 abbrev pub branchOf : Size → BranchMutation → ℕ → List ℕ → Keyed
 branchOf s c weight parent = reweighed keyedWeighed weight (changedKeyed usualSalts (s .n) c (entryOf s parent))
 
 module _ (s : Size) (c : BranchMutation) (weight : ℕ) (parent : List ℕ) where
-  pub made-count : branchOf s c weight parent .entry .body .count ≡ entryOf s parent .entry .body .count
-  unfolding reweighed
-  made-count = changed-count usualSalts s c (entryOf s parent)
-
   module _ (l : length parent ≡ entryLen s) where
     pub made-fits : Fits s (branchOf s c weight parent)
     unfolding reweighed

@@ -3,7 +3,7 @@
 use mathlib.Core.Path.{_≡_, refl, sym, ap, ap₂, _∙_}
 use mathlib.Core.List.{List, [], _∷_, _++_, append-assoc}
 use Prim.Native.Nat.{ℕ, zero, suc, _+_, _*_, _≤_, _<_}
-use native.Mathlib.Nat.{add-zero, not-suc-le-zero, le-of-suc-le-suc, suc-add}
+use native.Mathlib.Nat.{add-zero}
 use native.Mathlib.Numerals.{add-one}
 use native.Mathlib.Omega.{arith}
 use lib.Bits.{bitXor}
@@ -11,7 +11,7 @@ use lib.ListN.{length, take, drop, getD, set, length-append, length-drop, take-a
 use lib.Seq.{length-take-le, take-at, drop-at, set-at, drop-cons, drop-drop, take-suc, take-take, getD-take, getD-drop}
 use borrow.Rule.Slice.PartMut.{post-is}
 use Rattle.model.specs.Lists.{wordsBelow}
-use Rattle.model.specs.Entries.{Row, rowAt, rowWords, rowsBelow}
+use Rattle.model.specs.Entries.{rowAt, rowWords, rowsBelow}
 use Rattle.model.specs.Keys.{pick}
 use Rattle.model.specs.Changes.{flipsBy, flippedRow}
 use Rattle.model.specs.declared.BranchMutation.{BranchMutation}
@@ -35,11 +35,6 @@ module _ (to : ℕ) (w : List ℕ) where
     module _ (h : to + length x ≤ length w) where
       front : length (take to w) ≡ to
       front = length-take-le to w (omega arith)
-
-      pub onto-length : length (onto to x w) ≡ length w
-      unfolding onto
-      onto-length =
-          omega (arith, length-append (take to w) (x ++ drop (to + length x) w), length-append x (drop (to + length x) w), length-drop (to + length x) w, front)
 
       -- what stands before them is as it was
       before : take to (onto to x w) ≡ take to w
@@ -146,7 +141,7 @@ module _ (from to : ℕ) (w : List ℕ) where
           ap (λ (u : List ℕ). getD u (from + 3 * r + j) 0) e ∙ onto-read to w (made r) (omega (arith, made-length r)) (from + 3 * r + j) (omega arith)
           ∙ sym (getD-drop from w (3 * r + j) 0 ∙ ap (λ (n : ℕ). getD w n 0) i)
 
-      pub rows-next : {t : ℕ} → t ≡ pick (flipsBy m (record { x = getD l (from + 3 * r) 0; z = getD l (from + 3 * r + 1) 0; phase = getD l (from + 3 * r + 2) 0 })) 2
+      pub rows-next : {t : ℕ} → t ≡ pick (flipsBy m (rowAt (drop from w) r)) 2
           → set (set (set l (to + 3 * r) (getD l (from + 3 * r) 0)) (to + 3 * r + 1) (getD l (from + 3 * r + 1) 0)) (to + 3 * r + 2) (bitXor (getD l (from + 3 * r + 2) 0) t)
           ≡ onto to (made (r + 1)) w
       unfolding wordsBelow flippedRow
@@ -156,13 +151,10 @@ module _ (from to : ℕ) (w : List ℕ) where
           let there : 3 * r + 0 ≡ 3 * r = omega arith in
           let x : getD l (from + 3 * r) 0 ≡ row .x = ap (λ (i : ℕ). getD l i 0) (sym here) ∙ read 0 (omega arith) ∙ ap (λ (i : ℕ). getD (drop from w) i 0) there in
           let z : getD l (from + 3 * r + 1) 0 ≡ row .z = read 1 (omega arith) in
-          let f : getD l (from + 3 * r + 2) 0 ≡ row .phase = read 2 (omega arith) in
           let a = getD l (from + 3 * r) 0 in
           let b = getD l (from + 3 * r + 1) 0 in
           let c = getD l (from + 3 * r + 2) 0 in
-          let same : record { x = a; z = b; phase = c } ≡ row =
-          ap₂ (λ (x z : ℕ). record { x = x; z = z; phase = c }) x z ∙ ap (λ (p : ℕ). record { x = row .x; z = row .z; phase = p }) f in
-          let v : bitXor c t ≡ flippedRow m row .phase = ap₂ bitXor f (p ∙ ap (λ (u : Row). pick (flipsBy m u) 2) same) in
+          let v : bitXor c t ≡ flippedRow m row .phase = ap₂ bitXor (read 2 (omega arith)) p in
           ap (λ (u : List ℕ). set (set (set u (to + 3 * r) a) (to + 3 * r + 1) b) (to + 3 * r + 2) (bitXor c t)) e
           ∙ onto-three to w (made r) (to + 3 * r) a b (bitXor c t) (ap (λ (i : ℕ). to + i) (sym (made-length r))) k
           ∙ ap (λ (u : List ℕ). onto to (made r ++ u) w) (ap₂ (λ (x z : ℕ). x ∷ z ∷ bitXor c t ∷ []) x z ∙ ap (λ (p : ℕ). row .x ∷ row .z ∷ p ∷ []) v)

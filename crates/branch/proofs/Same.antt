@@ -9,15 +9,15 @@ use lib.Dec.{eqb}
 use lib.ListN.{getD}
 use borrow.Author.Tests.{eqb-true, eqb-false, eq-eqb, ne-eqb}
 use Rattle.model.specs.Lists.{allBelow}
-use Rattle.model.specs.Entries.{rowAt, rowWords}
+use Rattle.model.specs.Entries.{rowAt, xAt, zAt, rowWords}
 use Rattle.model.specs.Keys.{pick}
 use Rattle.model.specs.Changes.{flipsBy, flippedRow}
 use Rattle.model.specs.declared.BranchMutation.{BranchMutation}
-use Rattle.model.proofs.Lists.{all-more, all-not}
 use Rattle.model.proofs.Rows.{wordsBelow-at}
 use Rattle.model.proofs.Xor.{xor-cancel-left}
 use Rattle.checks.proofs.Ors.{or-zero, all-next}
-use Rattle.branch.specs.Same.{sameWord, flippedRows}
+use Rattle.branch.specs.Flips.{flippedRows}
+use Rattle.branch.specs.Same.{sameWord, samePauli}
 
 -- ---- the OR of what they differ in
 
@@ -32,6 +32,45 @@ xor-zero a b = go (eqb a b) refl
 pub words-next : (e p : List ℕ) (differ i : ℕ) → eqb differ 0 ≡ allBelow (sameWord e p) i → eqb (bitOr differ (bitXor (getD e i 0) (getD p i 0))) 0 ≡ allBelow (sameWord e p) (i + 1)
 words-next e p differ i h =
     or-zero differ (bitXor (getD e i 0) (getD p i 0)) ∙ ap₂ _&&_ h (xor-zero (getD e i 0) (getD p i 0)) ∙ sym (all-next (sameWord e p) i)
+
+-- three ORs, each with one more
+regroup : (a b c d e f : Bool) → (a && d && (b && e) && (c && f)) ≡ (a && b && c && d && e && f)
+regroup false b c d e f = refl
+regroup true false c false e f = refl
+regroup true false c true e f = refl
+regroup true true false false e f = refl
+regroup true true false true false f = refl
+regroup true true false true true f = refl
+regroup true true true false e f = refl
+regroup true true true true false f = refl
+regroup true true true true true f = refl
+
+two-ors : (x z phase : ℕ) → eqb (bitOr (bitOr x z) phase) 0 ≡ (eqb x 0 && eqb z 0 && eqb phase 0)
+two-ors x z phase = or-zero (bitOr x z) phase ∙ ap (λ (t : Bool). t && eqb phase 0) (or-zero x z)
+
+three-ors : (x a z b phase c : ℕ) → eqb (bitOr (bitOr (bitOr x a) (bitOr z b)) (bitOr phase c)) 0 ≡ (eqb x 0 && eqb z 0 && eqb phase 0 && eqb a 0 && eqb b 0 && eqb c 0)
+three-ors x a z b phase c =
+    two-ors (bitOr x a) (bitOr z b) (bitOr phase c)
+    ∙ ap₂ (λ (s t : Bool). s && t) (ap₂ (λ (s t : Bool). s && t) (or-zero x a) (or-zero z b)) (or-zero phase c)
+    ∙ regroup (eqb x 0) (eqb z 0) (eqb phase 0) (eqb a 0) (eqb b 0) (eqb c 0)
+
+-- ---- x and z alone
+
+two-more : (a b d e : Bool) → (a && d && (b && e)) ≡ (a && b && (d && e))
+two-more false b d e = refl
+two-more true false false e = refl
+two-more true false true e = refl
+two-more true true d e = refl
+
+-- a turn
+pub paulis-next : (e p : List ℕ) (x z i : ℕ) → eqb (bitOr x z) 0 ≡ allBelow (samePauli e p) i
+    → eqb (bitOr (bitOr x (bitXor (xAt e i) (xAt p i))) (bitOr z (bitXor (zAt e i) (zAt p i)))) 0 ≡ allBelow (samePauli e p) (i + 1)
+paulis-next e p x z i h =
+    let a = bitXor (xAt e i) (xAt p i) in
+    let b = bitXor (zAt e i) (zAt p i) in
+    or-zero (bitOr x a) (bitOr z b) ∙ ap₂ (λ (s t : Bool). s && t) (or-zero x a) (or-zero z b) ∙ two-more (eqb x 0) (eqb z 0) (eqb a 0) (eqb b 0)
+    ∙ ap₂ (λ (s t : Bool). s && t) (sym (or-zero x z) ∙ h) (ap₂ (λ (s t : Bool). s && t) (xor-zero (xAt e i) (xAt p i)) (xor-zero (zAt e i) (zAt p i)))
+    ∙ sym (all-next (samePauli e p) i)
 
 -- ---- row by row
 
@@ -57,27 +96,24 @@ module _ (e p : List ℕ) (rows : ℕ) (m : BranchMutation) where
     unfolding flippedRow
     phase-word f = word i 2 h (omega arith) ∙ ap (bitXor (getD p (3 * i + 2) 0)) (sym f)
 
-    -- a word is another: then not all are the same
-    other : (j v : ℕ) → j < 3 * rows → getD (flippedRows m rows p) j 0 ≡ v → (getD e j 0 ≡ v → ⊥) → false ≡ allBelow sameAt (3 * rows)
-    other j v l q n = sym (all-not sameAt (3 * rows) j l (ne-eqb (getD e j 0) (getD (flippedRows m rows p) j 0) (λ s. n (s ∙ q))))
-
-    pub other-x : (getD e (3 * i) 0 ≡ getD p (3 * i) 0 → ⊥) → false ≡ allBelow sameAt (3 * rows)
-    other-x = other (3 * i) (getD p (3 * i) 0) (omega arith) x-word
-
-    pub other-z : (getD e (3 * i + 1) 0 ≡ getD p (3 * i + 1) 0 → ⊥) → false ≡ allBelow sameAt (3 * rows)
-    other-z = other (3 * i + 1) (getD p (3 * i + 1) 0) (omega arith) z-word
-
-    pub other-phase : (t : ℕ) → t ≡ pick (flipsBy m (rowAt p i)) 2 → (getD e (3 * i + 2) 0 ≡ bitXor (getD p (3 * i + 2) 0) t → ⊥) → false ≡ allBelow sameAt (3 * rows)
-    other-phase t f = other (3 * i + 2) (bitXor (getD p (3 * i + 2) 0) t) (omega arith) (phase-word f)
-
-    -- the three are the same: a turn
-    pub row-same : (t : ℕ) → t ≡ pick (flipsBy m (rowAt p i)) 2 → allBelow sameAt (3 * i) ≡ true → getD e (3 * i) 0 ≡ getD p (3 * i) 0
-        → getD e (3 * i + 1) 0 ≡ getD p (3 * i + 1) 0 → getD e (3 * i + 2) 0 ≡ bitXor (getD p (3 * i + 2) 0) t → allBelow sameAt (3 * (i + 1)) ≡ true
-    row-same t f a x z q =
+    -- a turn: the OR of what their words differ in, apart for x, z and phases
+    pub row-next : (x z phase : ℕ) {t : ℕ} → t ≡ pick (flipsBy m (rowAt p i)) 2 → eqb (bitOr (bitOr x z) phase) 0 ≡ allBelow sameAt (3 * i)
+        → eqb (bitOr (bitOr (bitOr x (bitXor (getD e (3 * i) 0) (getD p (3 * i) 0))) (bitOr z (bitXor (getD e (3 * i + 1) 0) (getD p (3 * i + 1) 0))))
+        (bitOr phase (bitXor (getD e (3 * i + 2) 0) (bitXor (getD p (3 * i + 2) 0) t)))) 0 ≡ allBelow sameAt (3 * (i + 1))
+    row-next x z phase {t} f h =
+        let a = eqb (getD e (3 * i) 0) (getD p (3 * i) 0) in
+        let b = eqb (getD e (3 * i + 1) 0) (getD p (3 * i + 1) 0) in
+        let c = eqb (getD e (3 * i + 2) 0) (bitXor (getD p (3 * i + 2) 0) t) in
         let three : 3 * (i + 1) ≡ 3 * i + 1 + 1 + 1 = omega arith in
         let two : 3 * i + 1 + 1 ≡ 3 * i + 2 = omega arith in
-        let same : (j v : ℕ) → getD (flippedRows m rows p) j 0 ≡ v → getD e j 0 ≡ v → sameAt j ≡ true = λ j v w s. eq-eqb (getD e j 0) (getD (flippedRows m rows p) j 0) (s ∙ sym w) in
-        ap (allBelow sameAt) three
-        ∙ all-more sameAt (3 * i + 1 + 1)
-        (all-more sameAt (3 * i + 1) (all-more sameAt (3 * i) a (same (3 * i) (getD p (3 * i) 0) x-word x)) (same (3 * i + 1) (getD p (3 * i + 1) 0) z-word z))
-        (ap sameAt two ∙ same (3 * i + 2) (bitXor (getD p (3 * i + 2) 0) t) (phase-word f) q)
+        let same : (j v : ℕ) → getD (flippedRows m rows p) j 0 ≡ v → sameAt j ≡ eqb (getD e j 0) v = λ j v w. ap (eqb (getD e j 0)) w in
+        three-ors x _ z _ phase _
+        ∙ ap₂ (λ (u v : Bool). u && v) (ap₂ (λ (u v : Bool). u && v) (ap₂ (λ (u v : Bool). u && v) (sym (two-ors x z phase) ∙ h) (xor-zero (getD e (3 * i) 0) (getD p (3 * i) 0))) (xor-zero (getD e (3 * i + 1) 0) (getD p (3 * i + 1) 0)))
+        (xor-zero (getD e (3 * i + 2) 0) (bitXor (getD p (3 * i + 2) 0) t))
+        ∙ sym
+        (ap (allBelow sameAt) three
+        ∙ all-next sameAt (3 * i + 1 + 1)
+        ∙ ap₂ (λ (u v : Bool). u && v)
+        (all-next sameAt (3 * i + 1)
+        ∙ ap₂ (λ (u v : Bool). u && v) (all-next sameAt (3 * i) ∙ ap (λ (v : Bool). allBelow sameAt (3 * i) && v) (same (3 * i) (getD p (3 * i) 0) x-word)) (same (3 * i + 1) (getD p (3 * i + 1) 0) z-word))
+        (ap sameAt two ∙ same (3 * i + 2) (bitXor (getD p (3 * i + 2) 0) t) (phase-word f)))

@@ -1,3 +1,3 @@
-pub mod Flip
+pub mod Flips
 pub mod Onto
 pub mod Same

@@ -4,7 +4,7 @@ use mathlib.Core.List.{List, [], _∷_, _++_}
 use lib.Bits.{bitXor}
 use lib.ListN.{length, take, drop, getD}
 use Rattle.model.specs.declared.BranchMutation.{BranchMutation}
-use Rattle.branch.specs.Flip.{lossAfter}
+use Rattle.branch.specs.Flips.{lossAfter}
 
 -- the words x in place of those from `to` on
 unfoldable pub onto : ℕ → List ℕ → List ℕ → List ℕ

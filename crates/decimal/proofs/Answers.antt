@@ -9,7 +9,8 @@ use native.Mathlib.Omega.{arith}
 use lib.Dec.{eqb, ltb}
 use lib.Ieee.{Float, binary64, round, ofBits}
 use lib.Ieee.Scale.{finite}
-use Rattle.nearest.proofs.Far.{zero-rounded, too-far-up, too-far-down}
+use Rattle.words.proofs.Rounded.{zero-rounded}
+use Rattle.nearest.proofs.Far.{too-far-up, too-far-down}
 use borrow.Author.Tests.{eq-eqb, ne-eqb, lt-ltb, le-ltb, ltb-true, ltb-false}
 use Rattle.decimal.specs.Digits.{byteAt}
 use Rattle.decimal.specs.Decimals.{minus, signEnd, significandAt, exponentAt, up, down, signed, refused, answerFor, scaled, answerOf, decimalAt}

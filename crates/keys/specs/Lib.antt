@@ -1,2 +1,2 @@
-pub mod Deltas
+pub mod Changes
 pub mod Tables

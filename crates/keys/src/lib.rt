@@ -5,7 +5,7 @@ ghost use lib.Bits.{bitXor};
 ghost use lib.ListN.{length};
 ghost use Rattle.model.specs.Entries.{xAt, zAt, phaseAt};
 ghost use Rattle.model.specs.Keys.{usualSalts, mix, rowMask, bit, pick, xBit, zBit, maskSum, phaseMask, phaseKey, phaseLossKey, absorb, wordKey};
-ghost use Rattle.keys.specs.Deltas.{SignMasks, deltaTable};
+ghost use Rattle.keys.specs.Changes.{SignMasks, lowRows, lossChange, changeTable, Walks};
 ghost use Rattle.keys.specs.Tables.{PhaseMasks, KeysOfFour};
 ghost use Rattle.model.specs.declared.Salts.{Salts};
 use model::Salts;
@@ -295,21 +295,79 @@ pub fn times_bit(b: u64, m: u64) -> u64
     m * b
 }
 
-// By how much I, X, Y and Z at qubit q change the phase-loss key, in one pass, by the sign masks of the 2n rows. X flips the rows with z set
-// at q, Z those with x. What Y flips, X or Z flips and not both.
-pub fn delta_table(masks: &[u64; 128], n: usize, rows: &[u64], q: usize) -> [u64; 4]
-    requires { ⌜ (q < 64) × (n ≤ 64) × (3 * (2 * n) ≤ length (now rows)) ⌝ }
-    ensures { λ r. ⌜ ((s : Salts) → SignMasks s (2 * n) (now (masks .entry)) → r ≡ deltaTable s n (now (rows .entry)) q) ⌝ }
+// What a branch changes of its parent: the phase-loss key by `delta`, and phase bit 1 of the rows whose bits are set, the first 64 of them in
+// `low` and the rest in `high`.
+pub struct Change {
+    pub delta: u64,
+    pub low: u64,
+    pub high: u64,
+}
+
+// What a loss changes, and a reset: no row is flipped.
+pub fn loss_change(q: usize) -> Change
+    ensures { λ r. ⌜ r ≡ lossChange q ⌝ }
 {
-    let m = 2 * n;
-    let mut dx: u64 = 0;
-    let mut dz: u64 = 0;
-    let mut i: usize = 0;
-    while i < m {
-        let mask = masks[i];
-        dz = dz ^ times_bit(x_bit(rows, i, q), mask);
-        dx = dx ^ times_bit(z_bit(rows, i, q), mask);
-        i += 1;
+    Change {
+        delta: loss_mask(usual_salts(), q),
+        low: 0,
+        high: 0,
     }
-    [0, dx, dx ^ dz, dz]
+}
+
+// Of some rows, those with x set at a qubit, and those with z: the XOR of their sign masks, and as bits.
+pub struct Walked {
+    pub x: u64,
+    pub z: u64,
+    pub xs: u64,
+    pub zs: u64,
+}
+
+// The first of 2n rows, as many as have room in a word.
+pub fn low_rows(n: usize) -> usize
+    requires { ⌜ n ≤ 64 ⌝ }
+    ensures { λ r. ⌜ r ≡ lowRows n ⌝ }
+{
+    if n < 32 {
+        return 2 * n;
+    }
+    64
+}
+
+// Rows from `from` on and before `to`, walked from the last to the first, which so comes lowest.
+fn walk_rows(masks: &[u64; 128], rows: &[u64], q: usize, from: usize, to: usize) -> Walked
+    requires { ⌜ (q < 64) × (from ≤ to) × (to ≤ from + 64) × (to ≤ 128) × (3 * to ≤ length (now rows)) ⌝ }
+    ensures { λ r. ⌜ ((s : Salts) → SignMasks s to (now (masks .entry)) → Walks s (now (rows .entry)) q from to r) ⌝ }
+{
+    let mut x: u64 = 0;
+    let mut z: u64 = 0;
+    let mut xs: u64 = 0;
+    let mut zs: u64 = 0;
+    let mut i: usize = to;
+    while from < i {
+        i -= 1;
+        let mask = masks[i];
+        let x_set = x_bit(rows, i, q);
+        let z_set = z_bit(rows, i, q);
+        x = x ^ times_bit(x_set, mask);
+        z = z ^ times_bit(z_set, mask);
+        xs = 2 * xs + x_set;
+        zs = 2 * zs + z_set;
+    }
+    Walked { x, z, xs, zs }
+}
+
+// What I, X, Y and Z at qubit q change, in one pass, by the sign masks of the 2n rows. X flips the rows with z set at q, Z those with x. What
+// Y flips, X or Z flips and not both.
+pub fn change_table(masks: &[u64; 128], n: usize, rows: &[u64], q: usize) -> [u64; 12]
+    requires { ⌜ (q < 64) × (n ≤ 64) × (3 * (2 * n) ≤ length (now rows)) ⌝ }
+    ensures { λ r. ⌜ ((s : Salts) → SignMasks s (2 * n) (now (masks .entry)) → r ≡ changeTable s n (now (rows .entry)) q) ⌝ }
+{
+    let middle = low_rows(n);
+    let a = walk_rows(masks, rows, q, 0, middle);
+    let b = walk_rows(masks, rows, q, middle, 2 * n);
+    let x = a.x ^ b.x;
+    let z = a.z ^ b.z;
+    let low = a.xs ^ a.zs;
+    let high = b.xs ^ b.zs;
+    [0, 0, 0, z, a.zs, b.zs, x ^ z, low, high, x, a.xs, b.xs]
 }

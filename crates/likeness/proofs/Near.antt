@@ -3,12 +3,12 @@ use mathlib.Core.Path.{_≡_, refl, sym, ap, ap₂, _∙_}
 use mathlib.Core.Bool.{Bool, true, false, true≢false, cond, not, _&&_}
 use mathlib.Core.List.{List}
 use Prim.Native.Nat.{ℕ, _-_, _*_, _<_}
-use native.Mathlib.Nat.{mul-pos, zero-mul}
+use native.Mathlib.Nat.{mul-pos}
 use native.Mathlib.Omega.{arith}
 use lib.Ieee.{Float, nan, inf, fin, binary64, up, down, ofBits, round, neg, sum, add, sub, mul, lt}
-use lib.Ieee.Scale.{round-same}
 use lib.Ieee.Fits.{down-pos}
 use borrow.Author.Tests.{le-ltb}
+use Rattle.words.proofs.Rounded.{zero-rounded}
 use Rattle.model.specs.Floats.{float, finite, plus, minus}
 use Rattle.model.specs.Entries.{Body, indexAt, reAt, imAt}
 use Rattle.model.specs.Likeness.{valueAt, square, nearAt}
@@ -16,18 +16,13 @@ use Rattle.likeness.specs.Rising.{Rises}
 use Rattle.likeness.specs.Same.{SameFinite}
 use Rattle.likeness.proofs.Rising.{value-rising}
 
--- 0 of anything
-zero-of : (num den : ℕ) → num ≡ 0 → 0 < den → round binary64 false num den ≡ float 0
-unfolding ofBits round
-zero-of num den e p = round-same binary64 false num den 0 1 p (omega arith) (ap (λ (z : ℕ). z * 1) e ∙ sym (zero-mul den))
-
 -- the two parts are level, and what is left of them has the sign of 0
 level : (s : Bool) (a c : ℕ) → 0 < c → sum binary64 s a (not s) a c ≡ float 0
 unfolding sum
 level true a c p =
-    ap (λ (t : Bool). cond t (round binary64 false (a - a) c) (round binary64 (true && t) (a - a) c)) (le-ltb a a (omega arith)) ∙ zero-of (a - a) c (omega arith) p
+    ap (λ (t : Bool). cond t (round binary64 false (a - a) c) (round binary64 (true && t) (a - a) c)) (le-ltb a a (omega arith)) ∙ sym (zero-rounded (a - a) c (omega arith) p)
 level false a c p =
-    ap (λ (t : Bool). cond t (round binary64 true (a - a) c) (round binary64 false (a - a) c)) (le-ltb a a (omega arith)) ∙ zero-of (a - a) c (omega arith) p
+    ap (λ (t : Bool). cond t (round binary64 true (a - a) c) (round binary64 false (a - a) c)) (le-ltb a a (omega arith)) ∙ sym (zero-rounded (a - a) c (omega arith) p)
 
 less-itself : (x : Float) → finite x ≡ true → minus x x ≡ float 0
 unfolding finite sub add neg

@@ -23,6 +23,8 @@ use Rattle.model.proofs.Xor.{xor-assoc}
 use Rattle.model.proofs.Groups.{stride-le}
 use Rattle.model.proofs.Entries.{length-stretch, length-listed, listed-at}
 use Rattle.model.proofs.Packed.{Packed, within, more-listed}
+use Rattle.keys.specs.Changes.{changeOf}
+use Rattle.keys.specs.declared.Change.{Change}
 use Rattle.branch.proofs.Made.{branchOf, made-entry, made-length}
 use Rattle.store.specs.Branch.{Searched}
 use Rattle.store.specs.declared.Search.{Search}
@@ -70,14 +72,14 @@ module _ (s : Size) (count : ℕ) (w : List ℕ) (g : Packed s count w) (m : Bra
 
   -- ---- its key
 
-  module _ (keys firsts : List ℕ) (n : Noted count (seenAt s [] w) keys firsts) (delta : ℕ) (d : delta ≡ masksOf usualSalts (s .n) m (entryOf s parent .entry .body .rows)) where
-    pub key-is : bitXor (getD keys i 0) delta ≡ storedKey (changedKeyed usualSalts (s .n) m (entryOf s parent))
-    unfolding storedKey changedKeyed
+  module _ (keys firsts : List ℕ) (n : Noted count (seenAt s [] w) keys firsts) (change : Change) (d : change ≡ changeOf usualSalts (s .n) m (entryOf s parent .entry .body .rows)) where
+    pub key-is : bitXor (getD keys i 0) (change .delta) ≡ storedKey (changedKeyed usualSalts (s .n) m (entryOf s parent))
+    unfolding storedKey changedKeyed changeOf
     key-is =
         let e = entryOf s parent in
-        ap₂ bitXor (n .kept i h) d ∙ xor-assoc (e .wordKey) (e .phaseKey) (masksOf usualSalts (s .n) m (e .entry .body .rows))
+        ap₂ bitXor (n .kept i h) (ap (λ (c : Change). c .delta) d) ∙ xor-assoc (e .wordKey) (e .phaseKey) (masksOf usualSalts (s .n) m (e .entry .body .rows))
 
-    pub key-made : bitXor (getD keys i 0) delta ≡ storedKey (branchOf s m weight parent)
+    pub key-made : bitXor (getD keys i 0) (change .delta) ≡ storedKey (branchOf s m weight parent)
     unfolding storedKey reweighed
     key-made = key-is
 

@@ -1,5 +1,6 @@
 // Branches merged into the entries listed, one after the other: document 01, point 3.
 use arms::Shape;
+use keys::Change;
 use model::Found;
 use model::Size;
 use store::Fate;
@@ -11,10 +12,11 @@ ghost use Prim.Native.Nat.{_+_, _*_, _≤_, _<_};
 ghost use lib.ListN.{length};
 ghost use Rattle.model.specs.Entries.{entryLen, entryOf, stretch, listed};
 ghost use Rattle.model.specs.Keys.{usualSalts, storedKey};
-ghost use Rattle.model.specs.Changes.{masksOf, changedKeyed};
+ghost use Rattle.model.specs.Changes.{changedKeyed};
 ghost use Rattle.model.specs.Qubits.{QubitsBelow};
 ghost use Rattle.model.proofs.Packed.{Packed};
 ghost use Rattle.checks.specs.Sized.{Within};
+ghost use Rattle.keys.specs.Changes.{changeOf};
 ghost use Rattle.arms.specs.Arms.{mutationAt};
 ghost use Rattle.store.specs.Branch.{Searched, countBy, MergedBy};
 ghost use Rattle.branch.proofs.Made.{branchOf};
@@ -87,15 +89,15 @@ pub fn append_changed(
     shape: Shape,
     a: usize,
     weight: u64,
-    delta: u64,
+    change: Change,
 )
     requires { ⌜ Packed size count (now store) × Noted count (seenAt size [] (now store)) (now keys) (now firsts) × (i < count) × (count < size .capacity) ⌝ }
-    requires { ⌜ QubitsBelow 64 (mutationAt shape a) × (delta ≡ masksOf usualSalts (size .n) (mutationAt shape a) (entryOf size (stretch size (now store) i) .entry .body .rows)) × (a < 15) ⌝ }
+    requires { ⌜ QubitsBelow 64 (mutationAt shape a) × (change ≡ changeOf usualSalts (size .n) (mutationAt shape a) (entryOf size (stretch size (now store) i) .entry .body .rows)) × (a < 15) ⌝ }
     ensures { λ _. ⌜ (now (store .exit) ≡ appended size count (mutationAt shape a) weight i (now (store .entry))) × Noted (count + 1) (seenAt size [] (now (store .exit))) (now (keys .exit)) (now (firsts .exit)) ⌝ }
 {
-    let key = keys[i] ^ delta;
+    let key = keys[i] ^ change.delta;
     let m = arms::mutation_at(shape, a);
-    branch::make_branch(store, size, i, count, m, weight, delta);
+    branch::make_branch(store, size, i, count, m, weight, change);
     seeking::note(keys, firsts, count, key);
 }
 
@@ -110,10 +112,11 @@ fn seek_arm(
     i: usize,
     shape: Shape,
     a: usize,
+    change: Change,
     key: u64,
 ) -> Search
     requires { ⌜ Within size × (count ≤ 256) × (count * entryLen size ≤ length (now store)) × Noted count (seenAt size [] (now store)) (now keys) (now firsts) × (a < 15) ⌝ }
-    requires { ⌜ (i * entryLen size + entryLen size ≤ length (now store)) × (entryOf size (stretch size (now store) i) .entry .body .count ≤ size .k) × QubitsBelow 64 (mutationAt shape a) × (key ≡ storedKey (changedKeyed usualSalts (size .n) (mutationAt shape a) (entryOf size (stretch size (now store) i)))) ⌝ }
+    requires { ⌜ (i * entryLen size + entryLen size ≤ length (now store)) × (entryOf size (stretch size (now store) i) .entry .body .count ≤ size .k) × QubitsBelow 64 (mutationAt shape a) × (key ≡ storedKey (changedKeyed usualSalts (size .n) (mutationAt shape a) (entryOf size (stretch size (now store) i)))) × (change ≡ changeOf usualSalts (size .n) (mutationAt shape a) (entryOf size (stretch size (now store) i) .entry .body .rows)) ⌝ }
     ensures { λ r. ⌜ Searched size threshold (changedKeyed usualSalts (size .n) (mutationAt shape a) (entryOf size (stretch size (now (store .entry)) i))) (listed size count (now (store .entry))) r ⌝ }
 {
     if count <= seeking::first_place(firsts, key) {
@@ -123,7 +126,18 @@ fn seek_arm(
         };
     }
     let m = arms::mutation_at(shape, a);
-    seeking::seek_listed(store, keys, firsts, size, count, threshold, i, m, key)
+    seeking::seek_listed(
+        store,
+        keys,
+        firsts,
+        size,
+        count,
+        threshold,
+        i,
+        m,
+        change,
+        key,
+    )
 }
 
 // It is merged into the `count` entries listed, whose keys are noted. Where one is alike, its weight (word 0) gains the branch's, cutoff
@@ -140,13 +154,13 @@ pub fn merge_one_changed(
     shape: Shape,
     a: usize,
     weight: u64,
-    delta: u64,
+    change: Change,
 ) -> Settled
     requires { ⌜ Packed size count (now store) × Noted count (seenAt size [] (now store)) (now keys) (now firsts) × (i < count) × (entryOf size (stretch size (now store) i) .entry .body .count ≤ size .k) ⌝ }
-    requires { ⌜ QubitsBelow 64 (mutationAt shape a) × (delta ≡ masksOf usualSalts (size .n) (mutationAt shape a) (entryOf size (stretch size (now store) i) .entry .body .rows)) × (a < 15) ⌝ }
+    requires { ⌜ QubitsBelow 64 (mutationAt shape a) × (change ≡ changeOf usualSalts (size .n) (mutationAt shape a) (entryOf size (stretch size (now store) i) .entry .body .rows)) × (a < 15) ⌝ }
     ensures { λ r. ⌜ MergedBy size count threshold cutoff (branchOf size (mutationAt shape a) weight (stretch size (now (store .entry)) i)) (now (store .entry)) (now (store .exit)) r × Noted (countBy (r .fate) count) (seenAt size [] (now (store .exit))) (now (keys .exit)) (now (firsts .exit)) ⌝ }
 {
-    let key = keys[i] ^ delta;
+    let key = keys[i] ^ change.delta;
     let search = seek_arm(
         &store[..],
         keys,
@@ -157,13 +171,25 @@ pub fn merge_one_changed(
         i,
         shape,
         a,
+        change,
         key,
     );
     let found = search.found;
     let Found::At(place) = found else {
         if words::float_of(weight) > cutoff {
             if count < size.capacity {
-                append_changed(store, keys, firsts, size, count, i, shape, a, weight, delta);
+                append_changed(
+                    store,
+                    keys,
+                    firsts,
+                    size,
+                    count,
+                    i,
+                    shape,
+                    a,
+                    weight,
+                    change,
+                );
                 return Settled {
                     fate: Fate::Stored,
                     compared: search.compared,
@@ -199,11 +225,11 @@ pub fn merge_changed(
     shape: Shape,
     a: usize,
     weight: u64,
-    delta: u64,
+    change: Change,
     p: Progress,
 ) -> Progress
     requires { ⌜ Packed size (p .count) (now store) × Noted (p .count) (seenAt size [] (now store)) (now keys) (now firsts) × (i < p .count) × (entryOf size (stretch size (now store) i) .entry .body .count ≤ size .k) ⌝ }
-    requires { ⌜ QubitsBelow 64 (mutationAt shape a) × (delta ≡ masksOf usualSalts (size .n) (mutationAt shape a) (entryOf size (stretch size (now store) i) .entry .body .rows)) × Light 65536 p × (a < 15) ⌝ }
+    requires { ⌜ QubitsBelow 64 (mutationAt shape a) × (change ≡ changeOf usualSalts (size .n) (mutationAt shape a) (entryOf size (stretch size (now store) i) .entry .body .rows)) × Light 65536 p × (a < 15) ⌝ }
     ensures { λ r. ⌜ Went size threshold cutoff (branchOf size (mutationAt shape a) weight (stretch size (now (store .entry)) i) ∷ []) p (now (store .entry)) r (now (store .exit)) × Noted (r .count) (seenAt size [] (now (store .exit))) (now (keys .exit)) (now (firsts .exit)) ⌝ }
 {
     if p.full {
@@ -222,7 +248,7 @@ pub fn merge_changed(
         shape,
         a,
         weight,
-        delta,
+        change,
     );
     counted(p, settled)
 }

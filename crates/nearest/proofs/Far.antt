@@ -1,24 +1,18 @@
--- Powers of ten beyond the f64s: nothing times them is 0, all else is infinite; and what is divided by them is 0. Assumes nothing.
+-- Powers of ten beyond the f64s: what is times them is infinite, and what is divided by them is 0. Assumes nothing.
 use mathlib.Core.Path.{_≡_, sym, ap, ap₂, _∙_}
 use mathlib.Core.Bool.{Bool, false, cond}
 use Prim.Native.Nat.{ℕ, _-_, _*_, _/_, _^_, _≤_, _<_, compare}
-use native.Mathlib.Nat.{le-trans, le-of-eq, le-of-lt, lt-of-lt-of-le, lt-of-le-of-lt, mul-one, zero-mul, mul-le-mul, mul-le-mul-right, pow-le-pow-right, div-one, div-eq-of-lt, mod-eq-of-lt}
+use native.Mathlib.Nat.{le-trans, le-of-eq, le-of-lt, lt-of-lt-of-le, lt-of-le-of-lt, mul-one, mul-le-mul, mul-le-mul-right, pow-le-pow-right, div-one, div-eq-of-lt, mod-eq-of-lt}
 use native.Mathlib.Omega.{arith}
 use lib.Dec.{lit≤, lit<}
 use lib.Pow.{pow-mono}
 use lib.Ieee.{inf, binary64, size, odd, units, round, ofBits, nearest}
 use lib.Ieee.Nearest.{closest}
 use lib.Ieee.Order.{drop, kept}
-use lib.Ieee.Scale.{round-same}
 use borrow.Author.Tests.{le-ltb}
 use Rattle.nearest.proofs.Scaled.{size-gt, kept-at-least}
 use Rattle.nearest.proofs.Patterns.{rounded-is}
 use Rattle.nearest.proofs.Closest.{picks-lower}
-
--- 0 of anything
-pub zero-rounded : (num den : ℕ) → num ≡ 0 → 0 < den → ofBits binary64 0 ≡ round binary64 false num den
-unfolding ofBits round
-zero-rounded num den e p = sym (round-same binary64 false num den 0 1 p (omega arith) (ap (λ (z : ℕ). z * 1) e ∙ sym (zero-mul den)))
 
 -- ---- too large
 

@@ -45,7 +45,7 @@ pub fn revive(store: &mut [u64], size: Size, total: usize, i: usize, q: usize)
     let at = i * len;
     let end = at + len;
     let delta = keys::loss_mask(keys::usual_salts(), q);
-    branch::change_entry(&mut store[at..end], size, BranchMutation::Loss(q), delta);
+    branch::toggle_entry(&mut store[at..end], size, q, delta);
 }
 
 // The weight of the entry at place `to` gains that of the entry at place `from`.
@@ -89,6 +89,7 @@ pub fn bring_back(
         threshold,
         i,
         m,
+        keys::loss_change(q),
         key,
     );
     let found = search.found;

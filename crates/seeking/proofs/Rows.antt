@@ -1,7 +1,8 @@
 -- The changed parent's loss word, coefficients and rows, by the parent's words; and an entry beside it, some rows at a time. Assumes nothing.
 use mathlib.Core.Path.{_≡_, refl, sym, ap, ap₂, _∙_}
 use mathlib.Core.List.{List}
-use Prim.Native.Nat.{ℕ, zero, suc, _+_, _*_, _-_, _/_, _%_, _≤_, _<_}
+use mathlib.Core.Logic.{_⊎_, inl, inr}
+use Prim.Native.Nat.{ℕ, zero, suc, min, _+_, _*_, _-_, _/_, _%_, _≤_, _<_}
 use mathlib.Core.Bool.{Bool, true, false, _&&_}
 use native.Mathlib.Nat.{add-zero, add-suc}
 use native.Mathlib.Omega.{arith}
@@ -11,7 +12,8 @@ use lib.ListN.{length, take, getD, drop, length-drop}
 use lib.Seq.{length-take-le, getD-take, getD-drop}
 use Rattle.model.specs.Lists.{allBelow}
 use Rattle.model.specs.Entries.{Body, Row, rowAt, xAt, zAt, phaseAt, rowWords, mapRows, headLen, coefsLen, rowsLen, entryLen, entryOf}
-use Rattle.model.specs.Changes.{flippedRow, changedBody}
+use Rattle.model.specs.Changes.{flipsBy, flippedRow, changedBody}
+use Rattle.model.specs.Keys.{usualSalts}
 use Rattle.model.specs.Likeness.{sameRows, alike}
 use Rattle.model.specs.declared.BranchMutation.{BranchMutation}
 use Rattle.model.specs.declared.Size.{Size}
@@ -19,9 +21,13 @@ use Rattle.model.proofs.Lists.{and-false, and-true}
 use Rattle.model.proofs.Entries.{bodyOf}
 use Rattle.model.proofs.Rows.{wordsBelow-at}
 use Rattle.likeness.proofs.Alike.{sameAt}
-use Rattle.branch.specs.Flip.{lossAfter}
-use Rattle.branch.specs.Same.{sameWord, flippedRows}
+use Rattle.keys.specs.Changes.{flipBits, lowRows, changeOf}
+use Rattle.keys.specs.declared.Change.{Change}
+use Rattle.keys.proofs.Packed.{packed-ext, packed-shift}
+use Rattle.branch.specs.Flips.{flippedRows, lossAfter}
+use Rattle.branch.specs.Same.{sameWord}
 use Rattle.branch.proofs.Slot.{rows-after}
+use Rattle.seeking.specs.Parts.{flipsFrom}
 
 -- what is compared with an entry
 abbrev pub changed : Size → BranchMutation → List ℕ → Body
@@ -74,7 +80,7 @@ unlike-part s threshold a b j l h =
     rw (alike, sameRows, none) (simp and-false)
 
 -- `many` rows from row r on, as they are lent
-abbrev lentRows : Size → (r many : ℕ) → List ℕ → List ℕ
+abbrev pub lentRows : Size → (r many : ℕ) → List ℕ → List ℕ
 lentRows s r many w = take (headLen + coefsLen s + 3 * r + 3 * many - (headLen + coefsLen s + 3 * r)) (drop (headLen + coefsLen s + 3 * r) w)
 
 module _ (s : Size) (m : BranchMutation) (p e : List ℕ) (l : length p ≡ entryLen s) (r many : ℕ) where
@@ -104,6 +110,13 @@ module _ (s : Size) (m : BranchMutation) (p e : List ℕ) (l : length p ≡ entr
       ap₂ (λ (a b : ℕ). record { x = a; z = b; phase = phaseAt (lentRows s r many p) i })
       (lent-word p (3 * i) (omega arith) ∙ ap (λ (j : ℕ). getD rows j 0) x) (lent-word p (3 * i + 1) (omega arith) ∙ ap (λ (j : ℕ). getD rows j 0) z)
       ∙ ap (λ (c : ℕ). record { x = xAt rows (r + i); z = zAt rows (r + i); phase = c }) phase
+
+  -- so their bits are those of all from row r on
+  pub lent-bits : flipBits m (lentRows s r many p) 0 many ≡ flipBits m (bodyOf s p .rows) r many
+  unfolding flipBits
+  lent-bits =
+      packed-ext (λ i. flipsBy m (rowAt (lentRows s r many p) i)) (λ i. flipsBy m (rowAt (bodyOf s p .rows) (r + i))) 0 many (λ i h k. ap (flipsBy m) (lent-row i (omega arith)))
+      ∙ packed-shift (λ i. flipsBy m (rowAt (bodyOf s p .rows) i)) r 0 many ∙ ap (λ (i : ℕ). flipBits m (bodyOf s p .rows) i many) (add-zero r)
 
   -- and of the flipped ones, of all flipped
   flipped-word : (k : ℕ) → k < 3 * many → r + many ≤ 2 * s .n → getD (flippedRows m many (lentRows s r many p)) k 0 ≡ getD (changed s m p .rows) (3 * r + k) 0
@@ -141,6 +154,30 @@ module _ (s : Size) (m : BranchMutation) (p e : List ℕ) (l : length p ≡ entr
     part-differs threshold g =
         let none : allBelow tests (3 * (r + many)) ≡ false = part-tested ∙ ap (λ (t : Bool). allBelow tests (3 * r) && t) g ∙ and-false (allBelow tests (3 * r)) in
         unlike-part s threshold (bodyOf s e) (changed s m p) (3 * (r + many)) (omega arith) none
+
+-- ---- the two parts
+
+-- where a part begins, and where all end
+abbrev pub PartAt : (n r : ℕ) → Type 0
+PartAt n r = (r ≡ 0) ⊎ ((r ≡ lowRows n) ⊎ (r ≡ 2 * n))
+
+module _ (n : ℕ) (few : n ≤ 64) (r many : ℕ) (l : r < 2 * n) (k : many ≡ min (2 * n - r) 64) where
+  pub next-part : PartAt n r → PartAt n (r + many)
+  unfolding lowRows
+  next-part (inl e) = inr (inl (omega arith))
+  next-part (inr (inl e)) = inr (inr (omega arith))
+  next-part (inr (inr e)) = absurd (omega arith)
+
+  pub part-flips : (m : BranchMutation) (rows : List ℕ) (c : Change) → c ≡ changeOf usualSalts n m rows → PartAt n r → flipsFrom c r ≡ flipBits m rows r many
+  unfolding flipsFrom lowRows changeOf
+  part-flips m rows c f (inl e) =
+      let d : lowRows n ≡ many = omega arith in
+      ap (flipsFrom c) e ∙ ap (λ (x : Change). x .low) f ∙ ap₂ (λ (i j : ℕ). flipBits m rows i j) (sym e) d
+  part-flips m rows c f (inr (inl e)) =
+      let d : 2 * n - lowRows n ≡ many = omega arith in
+      let p : r ≡ suc 63 = omega arith in
+      ap (flipsFrom c) p ∙ ap (λ (x : Change). x .high) f ∙ ap₂ (λ (i j : ℕ). flipBits m rows i j) (sym e) d
+  part-flips m rows c f (inr (inr e)) = absurd (omega arith)
 
 -- the coefficients of an entry as they are lent
 pub coefs-length : (s : Size) (w : List ℕ) → length w ≡ entryLen s → length (take (headLen + coefsLen s - headLen) (drop headLen w)) ≡ coefsLen s

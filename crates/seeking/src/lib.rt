@@ -1,13 +1,14 @@
 // The walk over stored keys for a branch that is not made yet: document 01, point 3. The full keys of the list's entries stand in an
 // array, and a table says from which place on a key can stand; the branch is its parent, changed. A list is given by the places of its
 // entries in the store: entry i stands at places[i] or, where no place is given, at place i.
+use keys::Change;
 use model::BranchMutation;
 use model::Found;
 use model::Size;
 use store::Search;
 ghost use mathlib.Core.Path.{_≡_};
 ghost use mathlib.Core.List.{[]};
-ghost use Prim.Native.Nat.{_+_, _*_, _≤_, _<_};
+ghost use Prim.Native.Nat.{min, _+_, _*_, _≤_, _<_};
 ghost use lib.ListN.{length, getD, set};
 ghost use Rattle.model.specs.Entries.{entryLen, entryOf, stretch, listed};
 ghost use Rattle.model.specs.Keys.{usualSalts, storedKey};
@@ -15,9 +16,11 @@ ghost use Rattle.model.specs.Changes.{changedKeyed};
 ghost use Rattle.model.specs.Qubits.{QubitsBelow};
 ghost use Rattle.model.proofs.Packed.{Packed};
 ghost use Rattle.checks.specs.Sized.{Within};
+ghost use Rattle.keys.specs.Changes.{changeOf};
 ghost use Rattle.store.specs.Branch.{Searched};
 ghost use Rattle.store.proofs.Walk.{Walking};
 ghost use Rattle.seeking.specs.Noted.{seenAt, SeenIn, gathered, slotOf, Lowered, Kept, Noted};
+ghost use Rattle.seeking.specs.Parts.{flipsFrom};
 
 // ---- the entries
 
@@ -100,8 +103,7 @@ pub fn note_all(
 
 // Rows that are compared at a time: 64, or those that are left.
 fn few_of(left: usize) -> usize
-    requires { ⌜ 0 < left ⌝ }
-    ensures { λ r. ⌜ (0 < r) × (r ≤ left) × (r ≤ 64) ⌝ }
+    ensures { λ r. ⌜ r ≡ min left 64 ⌝ }
 {
     if left < 64 {
         return left;
@@ -109,9 +111,19 @@ fn few_of(left: usize) -> usize
     64
 }
 
+// The bits of the rows from r on that the change flips, where r is 0 or 64.
+fn flips_from(c: Change, r: usize) -> u64
+    ensures { λ v. ⌜ v ≡ flipsFrom c r ⌝ }
+{
+    if r == 0 {
+        return c.low;
+    }
+    c.high
+}
+
 // The walk from place `first` on, where no entry before that has the key: the first of the `count` entries that has it and is alike
 // with the changed entry at place `origin` of the store: equal loss (word 1), coefficient count (word 4) and rows, with the phases that
-// the mutation leaves, and each of its coefficients near. Only an entry with the key is compared in full, and its first difference ends
+// the change leaves, and each of its coefficients near. Only an entry with the key is compared in full, and its first difference ends
 // the comparison.
 fn walk_from(
     store: &[u64],
@@ -122,11 +134,12 @@ fn walk_from(
     threshold: f64,
     origin: usize,
     m: BranchMutation,
+    c: Change,
     key: u64,
     first: usize,
 ) -> Search
     requires { ⌜ Within size × (count ≤ 256) × SeenIn size count (now places) (now store) × Kept count (seenAt size (now places) (now store)) (now keys) ⌝ }
-    requires { ⌜ (origin * entryLen size + entryLen size ≤ length (now store)) × (entryOf size (stretch size (now store) origin) .entry .body .count ≤ size .k) × QubitsBelow 64 m × (key ≡ storedKey (changedKeyed usualSalts (size .n) m (entryOf size (stretch size (now store) origin)))) × Walking size threshold (changedKeyed usualSalts (size .n) m (entryOf size (stretch size (now store) origin))) (gathered count (seenAt size (now places) (now store))) 0 first ⌝ }
+    requires { ⌜ (origin * entryLen size + entryLen size ≤ length (now store)) × (entryOf size (stretch size (now store) origin) .entry .body .count ≤ size .k) × QubitsBelow 64 m × (key ≡ storedKey (changedKeyed usualSalts (size .n) m (entryOf size (stretch size (now store) origin)))) × Walking size threshold (changedKeyed usualSalts (size .n) m (entryOf size (stretch size (now store) origin))) (gathered count (seenAt size (now places) (now store))) 0 first × (c ≡ changeOf usualSalts (size .n) m (entryOf size (stretch size (now store) origin) .entry .body .rows)) ⌝ }
     ensures { λ r. ⌜ Searched size threshold (changedKeyed usualSalts (size .n) m (entryOf size (stretch size (now (store .entry)) origin))) (gathered count (seenAt size (now (places .entry)) (now (store .entry)))) r ⌝ }
 {
     let rows = 5 + 3 * size.k;
@@ -152,13 +165,13 @@ fn walk_from(
         if e[4] != parent[4] {
             continue 'keys;
         }
-        let f = branch::flip_of(m);
         let mut r = 0;
         while r < row_count {
             let many = few_of(row_count - r);
+            let flips = flips_from(c, r);
             let at = rows + 3 * r;
             let end = at + 3 * many;
-            if branch::same_part(&e[at..end], &parent[at..end], many, f) {
+            if branch::same_part(&e[at..end], &parent[at..end], many, flips) {
                 r += many;
             } else {
                 continue 'keys;
@@ -192,10 +205,11 @@ pub fn seek(
     threshold: f64,
     origin: usize,
     m: BranchMutation,
+    c: Change,
     key: u64,
 ) -> Search
     requires { ⌜ Within size × (count ≤ 256) × SeenIn size count (now places) (now store) × Noted count (seenAt size (now places) (now store)) (now keys) (now firsts) ⌝ }
-    requires { ⌜ (origin * entryLen size + entryLen size ≤ length (now store)) × (entryOf size (stretch size (now store) origin) .entry .body .count ≤ size .k) × QubitsBelow 64 m × (key ≡ storedKey (changedKeyed usualSalts (size .n) m (entryOf size (stretch size (now store) origin)))) ⌝ }
+    requires { ⌜ (origin * entryLen size + entryLen size ≤ length (now store)) × (entryOf size (stretch size (now store) origin) .entry .body .count ≤ size .k) × QubitsBelow 64 m × (key ≡ storedKey (changedKeyed usualSalts (size .n) m (entryOf size (stretch size (now store) origin)))) × (c ≡ changeOf usualSalts (size .n) m (entryOf size (stretch size (now store) origin) .entry .body .rows)) ⌝ }
     ensures { λ r. ⌜ Searched size threshold (changedKeyed usualSalts (size .n) m (entryOf size (stretch size (now (store .entry)) origin))) (gathered count (seenAt size (now (places .entry)) (now (store .entry)))) r ⌝ }
 {
     let first = first_place(firsts, key);
@@ -214,6 +228,7 @@ pub fn seek(
         threshold,
         origin,
         m,
+        c,
         key,
         first,
     )
@@ -246,10 +261,11 @@ pub fn seek_listed(
     threshold: f64,
     origin: usize,
     m: BranchMutation,
+    c: Change,
     key: u64,
 ) -> Search
     requires { ⌜ Within size × (count ≤ 256) × (count * entryLen size ≤ length (now store)) × Noted count (seenAt size [] (now store)) (now keys) (now firsts) ⌝ }
-    requires { ⌜ (origin * entryLen size + entryLen size ≤ length (now store)) × (entryOf size (stretch size (now store) origin) .entry .body .count ≤ size .k) × QubitsBelow 64 m × (key ≡ storedKey (changedKeyed usualSalts (size .n) m (entryOf size (stretch size (now store) origin)))) ⌝ }
+    requires { ⌜ (origin * entryLen size + entryLen size ≤ length (now store)) × (entryOf size (stretch size (now store) origin) .entry .body .count ≤ size .k) × QubitsBelow 64 m × (key ≡ storedKey (changedKeyed usualSalts (size .n) m (entryOf size (stretch size (now store) origin)))) × (c ≡ changeOf usualSalts (size .n) m (entryOf size (stretch size (now store) origin) .entry .body .rows)) ⌝ }
     ensures { λ r. ⌜ Searched size threshold (changedKeyed usualSalts (size .n) m (entryOf size (stretch size (now (store .entry)) origin))) (listed size count (now (store .entry))) r ⌝ }
 {
     let own = [0usize; 1];
@@ -263,6 +279,7 @@ pub fn seek_listed(
         threshold,
         origin,
         m,
+        c,
         key,
     )
 }

@@ -6,23 +6,30 @@ use Prim.Native.Nat.{ℕ, zero, suc, _+_, _*_, _-_, _≤_, _<_}
 use native.Mathlib.Nat.{le-refl}
 use native.Mathlib.Numerals.{add-one}
 use native.Mathlib.Omega.{arith}
+use lib.Dec.{eqb}
 use lib.Ieee.{Float, nan}
 use lib.ListN.{length, take, drop, getD, length-drop, length-append, length-map, List·getD-map}
 use lib.Seq.{getD-take}
+use borrow.Author.Tests.{eqb-true}
+use Rattle.model.specs.Lists.{allBelow}
 use Rattle.model.specs.Floats.{float, bits, times}
-use Rattle.model.specs.Entries.{Keyed, headLen, coefsLen, rowsLen, entryLen, entryOf, stretch, listed}
+use Rattle.model.specs.Entries.{Keyed, xAt, zAt, headLen, coefsLen, rowsLen, entryLen, entryOf, stretch, listed}
 use Rattle.model.specs.Keys.{usualSalts}
-use Rattle.model.specs.Changes.{masksOf, changedKeyed, changedEntry}
+use Rattle.model.specs.Changes.{changedKeyed, changedEntry}
 use Rattle.model.specs.Store.{keyedWeighed, reweighed, mergeAll, testedAll, howMany}
 use Rattle.model.specs.Channels.{branchOf}
 use Rattle.model.specs.Calls.{engine}
 use Rattle.model.specs.declared.BranchMutation.{BranchMutation}
 use Rattle.model.specs.declared.Size.{Size}
+use Rattle.model.proofs.Lists.{and-both, all-at}
 use Rattle.model.proofs.Groups.{stride-le}
 use Rattle.model.proofs.Entries.{listed-at, part-tail}
 use Rattle.model.proofs.Packed.{Packed, within}
-use Rattle.deltas.specs.Tables.{firstTable, secondTable, deltaAt}
-use Rattle.deltas.proofs.Masks.{delta-masks}
+use Rattle.keys.specs.Changes.{changeOf}
+use Rattle.keys.specs.declared.Change.{Change}
+use Rattle.deltas.specs.Tables.{firstTable, secondTable, changeAt}
+use Rattle.deltas.proofs.Masks.{SamePaulis, branch-changes}
+use Rattle.branch.specs.Same.{samePauli}
 use Rattle.arms.specs.Arms.{mutationAt, armAt, armsBelow, ShapeBelow}
 use Rattle.arms.specs.declared.Arms.{Arms}
 use Rattle.arms.specs.declared.Shape.{Shape}
@@ -53,17 +60,27 @@ pub same-count : (e x : Keyed) → unweighed e ≡ unweighed x → e .entry .bod
 unfolding reweighed
 same-count e x h = ap (λ (y : Keyed). y .entry .body .count) h
 
-same-rows : (e x : Keyed) → unweighed e ≡ unweighed x → e .entry .body .rows ≡ x .entry .body .rows
+pub same-rows : (e x : Keyed) → unweighed e ≡ unweighed x → e .entry .body .rows ≡ x .entry .body .rows
 unfolding reweighed
 same-rows e x h = ap (λ (y : Keyed). y .entry .body .rows) h
 
 -- the rows of a parent, as they are lent
-pub rows-lent : (s : Size) (parent e : List ℕ) → parent ≡ e → take (length parent - (headLen + coefsLen s)) (drop (headLen + coefsLen s) parent) ≡ entryOf s e .entry .body .rows
+abbrev pub lentRows : Size → List ℕ → List ℕ
+lentRows s parent = take (length parent - (headLen + coefsLen s)) (drop (headLen + coefsLen s) parent)
+
+pub rows-lent : (s : Size) (parent e : List ℕ) → parent ≡ e → lentRows s parent ≡ entryOf s e .entry .body .rows
 unfolding entryOf
 rows-lent s parent e h = part-tail (headLen + coefsLen s) parent ∙ ap (drop (headLen + coefsLen s)) h
 
-pub rows-long : (s : Size) (parent : List ℕ) → length parent ≡ entryLen s → length (take (length parent - (headLen + coefsLen s)) (drop (headLen + coefsLen s) parent)) ≡ rowsLen s
+pub rows-long : (s : Size) (parent : List ℕ) → length parent ≡ entryLen s → length (lentRows s parent) ≡ rowsLen s
 rows-long s parent h = ap length (part-tail (headLen + coefsLen s) parent) ∙ length-drop (headLen + coefsLen s) parent ∙ (omega arith)
+
+-- rows that were tested have the same x and z
+pub paulis-same : {a b r t : List ℕ} {m k : ℕ} → a ≡ r → b ≡ t → m ≡ k → allBelow (samePauli a b) m ≡ true → SamePaulis k r t
+paulis-same {a} {b} {r} {t} {m} {k} ea eb em h i l =
+    let p : allBelow (samePauli r t) k ≡ true = rw (sym ea, sym eb, sym em) h in
+    let two = and-both (eqb (xAt r i) (xAt t i)) (eqb (zAt r i) (zAt t i)) (all-at (samePauli r t) k i p l) in
+    (eqb-true (xAt r i) (xAt t i) (two .0), eqb-true (zAt r i) (zAt t i) (two .1))
 
 -- a listed entry lies in the store
 pub inside : (s : Size) (count i : ℕ) (w : List ℕ) → Packed s count w → i < count → i * entryLen s + entryLen s ≤ length w
@@ -143,13 +160,13 @@ module _ (s : Size) (threshold cutoff : Float) where
         next-branch a q q' v v' t (rw (sym c, sym e') g)
 
     -- the tables of the parent as it was give what a branch changes now
-    pub delta-now : (a : ℕ) (q : Progress) (v : List ℕ) {first second : List ℕ} {m : BranchMutation} {d : ℕ} → a < 15 → Sofar a q v
+    pub change-now : (a : ℕ) (q : Progress) (v : List ℕ) {first second : List ℕ} {d : Change} → a < 15 → Sofar a q v
         → first ≡ firstTable (r .shape) (s .n) (entryOf s (stretch s w i) .entry .body .rows) → second ≡ secondTable (r .shape) (s .n) (entryOf s (stretch s w i) .entry .body .rows)
-        → m ≡ mutationAt (r .shape) a → d ≡ deltaAt first second a → d ≡ masksOf usualSalts (s .n) m (entryOf s (stretch s v i) .entry .body .rows)
-    delta-now a q v {first} {second} {m} {d} b t f g e k =
+        → d ≡ changeAt first second a → d ≡ changeOf usualSalts (s .n) (mutationAt (r .shape) a) (entryOf s (stretch s v i) .entry .body .rows)
+    change-now a q v {first} {second} {d} b t f g k =
         let rows = entryOf s (stretch s w i) .entry .body .rows in
-        k ∙ ap₂ (λ (x y : List ℕ). deltaAt x y a) f g ∙ delta-masks (r .shape) (s .n) rows a b
-        ∙ ap₂ (masksOf usualSalts (s .n)) (sym e) (sym (same-rows (entryOf s (stretch s v i)) (entryOf s (stretch s w i)) (still-there i h t)))
+        k ∙ ap₂ (λ (x y : List ℕ). changeAt x y a) f g ∙ branch-changes (s .n) rows (r .shape) a b
+        ∙ ap (changeOf usualSalts (s .n) (mutationAt (r .shape) a)) (sym (same-rows (entryOf s (stretch s v i)) (entryOf s (stretch s w i)) (still-there i h t)))
 
     pub light : (a : ℕ) (q : Progress) (v : List ℕ) → Light (15 * i) p → a ≤ 15 → i < 256 → Sofar a q v → Light 65536 q
     light a q v l b k t =

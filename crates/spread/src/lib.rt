@@ -13,20 +13,21 @@ ghost use Rattle.model.specs.Store.{keyedWeighed, weightOf};
 ghost use Rattle.model.proofs.Packed.{Packed};
 ghost use Rattle.rebuild.specs.Saved.{Became};
 ghost use Rattle.arms.specs.Arms.{ShapeBelow};
-ghost use Rattle.keys.specs.Deltas.{SignMasks};
-ghost use Rattle.deltas.specs.Tables.{walkedRows};
+ghost use Rattle.keys.specs.Changes.{SignMasks};
+ghost use Rattle.deltas.specs.Tables.{walkedRows, firstTable, secondTable};
 ghost use Rattle.seeking.specs.Noted.{seenAt, Noted};
 ghost use Rattle.spread.specs.Spread.{Spread};
 ghost use Rattle.merging.specs.Progress.{Went, Light, started};
 ghost use Rattle.spread.specs.Branches.{parentAt, branchesBelow, liveAt, scaledBy, branchesUpTo, FewCoefficients};
 
-// The branches of the parent at place i, in order, merged. `old` is the weight it had before it was scaled. Its rows are walked once for
-// each qubit; what a branch changes of the key is then two words of a table.
-pub fn merge_arms(
+// The branches of the parent at place i, in order, merged. `old` is the weight it had before it was scaled. What a branch changes is told by
+// the parent's two tables.
+fn merge_arms(
     store: &mut [u64],
     keys: &mut [u64; 256],
     firsts: &mut [u8; 4096],
-    masks: &[u64; 128],
+    first: &[u64; 12],
+    second: &[u64; 12],
     size: Size,
     threshold: f64,
     cutoff: f64,
@@ -38,19 +39,15 @@ pub fn merge_arms(
     p: Progress,
 ) -> Progress
     requires { ⌜ Packed size (p .count) (now store) × Noted (p .count) (seenAt size [] (now store)) (now keys) (now firsts) × (i < p .count) × (entryOf size (stretch size (now store) i) .entry .body .count ≤ size .k) ⌝ }
-    requires { ⌜ SignMasks usualSalts (walkedRows shape (size .n)) (now masks) × ShapeBelow 64 shape × (count ≤ 15) × Light (15 * i) p ⌝ }
+    requires { ⌜ (now first ≡ firstTable shape (size .n) (entryOf size (stretch size (now store) i) .entry .body .rows)) × (now second ≡ secondTable shape (size .n) (entryOf size (stretch size (now store) i) .entry .body .rows)) × ShapeBelow 64 shape × (count ≤ 15) × Light (15 * i) p ⌝ }
     ensures { λ r. ⌜ Went size threshold cutoff (branchesBelow size threshold (record { rates = now (rates .entry); count = count; shape = shape }) count (parentAt size (now (store .entry)) i old)) p (now (store .entry)) r (now (store .exit)) × Noted (r .count) (seenAt size [] (now (store .exit))) (now (keys .exit)) (now (firsts .exit)) ⌝ }
 {
-    let rows = 5 + 3 * size.k;
-    let parent = store::entry(store, size, i);
-    let first = deltas::first_table(masks, size.n, &parent[rows..], shape);
-    let second = deltas::second_table(masks, size.n, &parent[rows..], shape);
     let weight = words::float_of(old);
     let mut q = p;
     let mut a = 0;
     while a < count {
         let w = words::bits_of(weight * rates[a]);
-        let delta = deltas::delta_at(&first, &second, a);
+        let change = deltas::change_at(first, second, a);
         q = merging::merge_changed(
             store,
             keys,
@@ -62,12 +59,60 @@ pub fn merge_arms(
             shape,
             a,
             w,
-            delta,
+            change,
             q,
         );
         a += 1;
     }
     q
+}
+
+// The same, with the tables of the first entry at hand. Entries that came from one by Paulis and losses have the same x and z, and so the same
+// tables; a parent with others gets its own.
+pub fn merge_parent(
+    store: &mut [u64],
+    keys: &mut [u64; 256],
+    firsts: &mut [u8; 4096],
+    masks: &[u64; 128],
+    first: &[u64; 12],
+    second: &[u64; 12],
+    size: Size,
+    threshold: f64,
+    cutoff: f64,
+    rates: &[f64; 15],
+    shape: Shape,
+    count: usize,
+    i: usize,
+    old: u64,
+    p: Progress,
+) -> Progress
+    requires { ⌜ Packed size (p .count) (now store) × Noted (p .count) (seenAt size [] (now store)) (now keys) (now firsts) × (i < p .count) × (entryOf size (stretch size (now store) i) .entry .body .count ≤ size .k) ⌝ }
+    requires { ⌜ (now first ≡ firstTable shape (size .n) (entryOf size (stretch size (now store) 0) .entry .body .rows)) × (now second ≡ secondTable shape (size .n) (entryOf size (stretch size (now store) 0) .entry .body .rows)) × ShapeBelow 64 shape × (count ≤ 15) × Light (15 * i) p × SignMasks usualSalts (walkedRows shape (size .n)) (now masks) ⌝ }
+    ensures { λ r. ⌜ Went size threshold cutoff (branchesBelow size threshold (record { rates = now (rates .entry); count = count; shape = shape }) count (parentAt size (now (store .entry)) i old)) p (now (store .entry)) r (now (store .exit)) × Noted (r .count) (seenAt size [] (now (store .exit))) (now (keys .exit)) (now (firsts .exit)) ⌝ }
+{
+    let rows = 5 + 3 * size.k;
+    let parent = store::entry(store, size, i);
+    let leader = store::entry(store, size, 0);
+    let walked = deltas::walked_rows(shape, size.n);
+    let same = branch::same_paulis(&leader[rows..], &parent[rows..], walked);
+    let own_first = deltas::first_table_by(same, first, masks, size.n, &parent[rows..], shape);
+    let own_second = deltas::second_table_by(same, second, masks, size.n, &parent[rows..], shape);
+    merge_arms(
+        store,
+        keys,
+        firsts,
+        &own_first,
+        &own_second,
+        size,
+        threshold,
+        cutoff,
+        rates,
+        shape,
+        count,
+        i,
+        old,
+        p,
+    )
 }
 
 // ---- parents
@@ -135,6 +180,10 @@ pub fn merge_parents(
     let rates = arms.rates;
     let arm_count = arms.count;
     let masks = keys::sign_masks(keys::usual_salts(), deltas::walked_rows(shape, size.n));
+    let rows = 5 + 3 * size.k;
+    let leader = store::entry(store, size, 0);
+    let first = deltas::first_table(&masks, size.n, &leader[rows..], shape);
+    let second = deltas::second_table(&masks, size.n, &leader[rows..], shape);
     let mut q = Progress {
         count,
         merged: 0,
@@ -146,11 +195,13 @@ pub fn merge_parents(
     let mut i = 0;
     while i < count {
         if is_live(shape, store[i * len + 1]) {
-            q = merge_arms(
+            q = merge_parent(
                 store,
                 keys,
                 firsts,
                 &masks,
+                &first,
+                &second,
                 size,
                 threshold,
                 cutoff,

@@ -1,30 +1,31 @@
--- `branch::copy_flipped` meets its contract. The invariant: the rows below r are copied, with what the mutation of these masks leaves of their phases.
+-- `branch::copy_flipped` meets its contract. The invariant: the rows below r are copied, with what the mutation leaves of their phases.
 -- Assumes nothing.
-use mathlib.Core.Path.{_≡_, refl, ap, _∙_}
-use Prim.Native.Nat.{ℕ, _*_, _≤_, _-_}
+use mathlib.Core.Path.{_≡_, refl, sym, ap, _∙_}
+use Prim.Native.Nat.{ℕ, _≤_, _-_}
+use native.Mathlib.Nat.{sub-zero}
 use native.Mathlib.Omega.{arith}
-use lib.ListN.{length, length-set}
-use Rattle.model.specs.Entries.{mapRows}
+use lib.ListN.{length, drop, length-set}
 use Rattle.model.specs.declared.BranchMutation.{BranchMutation}
-use Rattle.branch.specs.Flip.{flipOf}
+use Rattle.keys.specs.Changes.{flipBits}
+use Rattle.branch.specs.Flips.{flippedRows}
 use Rattle.branch.specs.Onto.{onto}
-use Rattle.branch.proofs.Flips.{word-flips}
+use Rattle.branch.proofs.Flips.{bit-twice, first-left, rest-left}
 use Rattle.branch.proofs.Onto.{made, rows-none, rows-next}
-use borrow.Author.Needs.{needs}
 use Rattle.branch.proofs.copy_flipped.Statement.{statement}
 use Rattle.branch.proofs.copy_flipped.Tie as tie
 
 abbrev Inv-loop : tie.InvT-loop
-Inv-loop store₀ from to n f count r₀ store r = (r ≤ count) × (length store ≡ length store₀) × ((m : BranchMutation) → f ≡ flipOf m → store ≡ onto to (made from to store₀ m r) store₀)
+Inv-loop store₀ from to rows flips left₀ r₀ store left r =
+    (r ≤ rows) × (length store ≡ length store₀)
+    × ((m : BranchMutation) → flips ≡ flipBits m (drop from store₀) 0 rows → (left ≡ flipBits m (drop from store₀) r (rows - r)) × (store ≡ onto to (made from to store₀ m r) store₀))
 
 abbrev μ-loop : tie.MeasureT-loop
-μ-loop store₀ from to n f count r₀ store r = count - r
-
-mul-count : tie.Need-mul-count Inv-loop μ-loop
-mul-count c = omega arith
+μ-loop store₀ from to rows flips left₀ r₀ store left r = rows - r
 
 loop-holds : tie.Need-loop-holds Inv-loop μ-loop
-loop-holds c = (omega arith, refl, λ m e. rows-none (c .before .args .from) (c .before .args .to) (c .before .args .store .now) m)
+loop-holds c =
+    let a = c .args in
+    (omega arith, refl, λ m q. (q ∙ ap (flipBits m (drop (a .from) (a .store .now)) 0) (sym (sub-zero (a .rows))), rows-none (a .from) (a .to) (a .store .now) m))
 
 mul-at : tie.Need-mul-at Inv-loop μ-loop
 mul-at c = omega arith
@@ -77,14 +78,14 @@ mul-store-2 c = omega arith
 slice-write-store-2 : tie.Need-slice-write-store-2 Inv-loop μ-loop
 slice-write-store-2 c = simp length-set (omega arith)
 
-flip-word-requires : tie.Need-flip-word-requires Inv-loop μ-loop
-flip-word-requires c κs = search needs
+mul-store-3 : tie.Need-mul-store-3 Inv-loop μ-loop
+mul-store-3 c = omega arith
 
 add-store-2 : tie.Need-add-store-2 Inv-loop μ-loop
 add-store-2 c = omega arith
 
-mul-store-3 : tie.Need-mul-store-3 Inv-loop μ-loop
-mul-store-3 c = omega arith
+mul-store-4 : tie.Need-mul-store-4 Inv-loop μ-loop
+mul-store-4 c = omega arith
 
 slice-write-store-3 : tie.Need-slice-write-store-3 Inv-loop μ-loop
 slice-write-store-3 c = simp length-set (omega arith)
@@ -97,24 +98,29 @@ loop-less c = omega arith
 
 loop-again : tie.Need-loop-again Inv-loop μ-loop
 loop-again c =
-    let at = c .before .before .before .before .before in
-    let a = at .before .before .args in
-    let l = at .loop in (
+    let w = c .before .before .before .before in
+    let a = w .before .args in
+    let l = w .loop in
+    let p = drop (a .from) (a .store .now) in (
       omega arith,
       simp length-set (omega arith),
-      λ m e. rows-next (a .from) (a .to) (a .store .now) m (l .r) (l .inv .2 m e) (omega arith) (omega arith) (word-flips m (record { x = _; z = _; phase = _ }) e (c .flip-word .ensures)),
+      λ m q.
+          let left = l .inv .2 m q .0 in (
+            rest-left m p (l .r) (a .rows) (omega arith) left,
+            rows-next (a .from) (a .to) (a .store .now) m (l .r) (l .inv .2 m q .1) (omega arith) (omega arith) (bit-twice m p (l .r) (first-left m p (l .r) (a .rows) (omega arith) left)),
+          ),
     )
 
 same-length : tie.Need-same-length Inv-loop μ-loop
 same-length c = omega arith
 
 returns : tie.Need-returns Inv-loop μ-loop
-unfolding mapRows
+unfolding flippedRows
 returns c =
-    let a = c .before .before .before .args in
+    let a = c .before .before .args in
     let l = c .before .loop in
-    let e : l .r ≡ 2 * a .n = omega arith in
-    λ m q. l .inv .2 m q ∙ ap (λ (i : ℕ). onto (a .to) (made (a .from) (a .to) (a .store .now) m i) (a .store .now)) e
+    let e : l .r ≡ a .rows = omega arith in
+    λ m q. l .inv .2 m q .1 ∙ ap (λ (i : ℕ). onto (a .to) (made (a .from) (a .to) (a .store .now) m i) (a .store .now)) e
 
 pub copy-flipped-spec : {M : Type 1} → statement M
 copy-flipped-spec =
@@ -122,7 +128,6 @@ copy-flipped-spec =
     (tie.spec
     Inv-loop
     μ-loop
-    mul-count
     loop-holds
     mul-at
     add-at
@@ -141,9 +146,9 @@ copy-flipped-spec =
     add-store
     mul-store-2
     slice-write-store-2
-    flip-word-requires
-    add-store-2
     mul-store-3
+    add-store-2
+    mul-store-4
     slice-write-store-3
     add-r
     loop-less

@@ -1,7 +1,7 @@
 -- `branch::loss_after` meets its contract, by cases of the mutation. Assumes nothing.
 use mathlib.Core.Path.{subst}
 use Rattle.model.specs.Qubits.{QubitsBelow}
-use Rattle.branch.specs.Flip.{lossAfter}
+use Rattle.branch.specs.Flips.{lossAfter}
 use borrow.Author.Needs.{needs}
 use Rattle.branch.proofs.loss_after.Statement.{statement}
 use Rattle.branch.proofs.loss_after.Tie as tie

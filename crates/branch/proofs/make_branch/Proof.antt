@@ -1,6 +1,5 @@
 -- `branch::make_branch` meets its contract: the head, the coefficients and the rows, one after the other. Assumes nothing.
-use mathlib.Core.Path.{_≡_, ap, _∙_}
-use Prim.Native.Nat.{ℕ, _+_, _*_, _≤_}
+use Prim.Native.Nat.{_+_, _*_, _≤_}
 use native.Mathlib.Omega.{arith}
 use denote.Ref.{now}
 use lib.ListN.{length}
@@ -63,7 +62,6 @@ copy-rows-requires c κs =
       s .pre .0 .qubits,
       omega (arith, rooms (c .before .before .before .before .before .before .before .before .before), e),
       omega (arith, rooms (c .before .before .before .before .before .before .before .before .before), e, c .before .before .before .before .before .before .before .make-head .kept .0, c .before .before .before .copy-part .kept .0),
-      s .pre .3,
     )
 
 same-length : tie.Need-same-length
@@ -74,8 +72,8 @@ returns c =
     let s = c .before .before .before .before .before .before .before .before .before .before .before .before .before .before .before in
     let a = s .args in
     let e = c .before .before .before .before .before .before .before .before .before .before .before .before .before .entry-len .ensures in
-    made-in-slot (a .size) (a .m) (a .weight) (a .delta) (a .i) (a .slot) (now (a .store)) (s .pre .1) (s .pre .2) (s .pre .4) (rw e at (c .before .before .before .before .before .before .before .before .before .before .make-head .ensures))
-    (rw e at (c .before .before .before .before .before .before .copy-part .ensures)) (rw e at (c .before .before .copy-rows .ensures))
+    made-in-slot (a .size) (a .m) (a .weight) (a .c) (a .i) (a .slot) (now (a .store)) (s .pre .1) (s .pre .2) (s .pre .0 .qubits) (s .pre .4) (rw e at (c .before .before .before .before .before .before .before .before .before .before .make-head .ensures))
+    (rw e at (c .before .before .before .before .before .before .copy-part .ensures)) (rw e at (c .before .before .copy-rows .ensures (a .m)))
 
 pub make-branch-spec : {M : Type 1} → statement M
 make-branch-spec =

@@ -1,4 +1,4 @@
--- `branch::same_part` meets its contract: masks without a bit leave the rows as they are. Assumes nothing.
+-- `branch::same_part` meets its contract: bits of which none is set leave the rows as they are. Assumes nothing.
 use mathlib.Core.Path.{sym, ap₂, _∙_}
 use mathlib.Core.List.{List}
 use Prim.Native.Nat.{ℕ}
@@ -14,12 +14,10 @@ same-words-requires c κs = search needs
 
 returns : tie.Need-returns
 returns c =
-    let two = c .before in
-    let one = two .before .before in
-    let start = one .before .before .before .before in
+    let start = c .before .before .before .before in
     let a = start .args in
     λ m q. c .same-words .ensures
-    ∙ ap₂ (λ (l : List ℕ) (k : ℕ). allBelow (sameWord (a .e .now) l) k) (sym (rows-unflipped m (a .f) q (one .if1 .taken) (two .if2 .taken) (a .rows) (a .p .now) (start .pre .2))) (start .pre .2)
+    ∙ ap₂ (λ (l : List ℕ) (k : ℕ). allBelow (sameWord (a .e .now) l) k) (sym (rows-unflipped m (a .rows) (a .p .now) (sym q ∙ c .before .if1 .taken) (start .pre .2))) (start .pre .2)
 
 same-flipped-requires : tie.Need-same-flipped-requires
 same-flipped-requires c κs = search needs

@@ -4,7 +4,7 @@ use denote.Ref.{now}
 use Rattle.model.specs.Keys.{usualSalts}
 use Rattle.arms.specs.Arms.{ShapeBelow}
 use Rattle.arms.specs.declared.Shape.{Shape}
-use Rattle.keys.specs.Deltas.{SignMasks}
+use Rattle.keys.specs.Changes.{SignMasks}
 use Rattle.deltas.specs.Tables.{walkedRows, firstTable}
 use borrow.Author.Needs.{needs}
 use Rattle.deltas.proofs.first_table.Statement.{statement}
@@ -19,8 +19,8 @@ enum-told-2 c = search needs
 enum-known-shape : tie.Need-enum-known-shape
 enum-known-shape c = search needs
 
-delta-table-requires : tie.Need-delta-table-requires
-delta-table-requires c κs =
+change-table-requires : tie.Need-change-table-requires
+change-table-requires c κs =
     let s = c .before .before .before .before in
     (subst (ShapeBelow 64) (c .before .shape .given .1) (s .pre .2) .0, s .pre .0, s .pre .1)
 
@@ -38,7 +38,7 @@ returns-3 c =
     let s = c .before .before .before .before .before in
     let a = s .args in
     let e = c .before .before .shape .given .1 in
-    c .delta-table .ensures usualSalts (subst (λ (h : Shape). SignMasks usualSalts (walkedRows h (a .n)) (now (a .masks))) e (s .pre .3))
+    c .change-table .ensures usualSalts (subst (λ (h : Shape). SignMasks usualSalts (walkedRows h (a .n)) (now (a .masks))) e (s .pre .3))
     ∙ sym (ap (λ (h : Shape). firstTable h (a .n) (now (a .rows))) e)
 
 pub first-table-spec : {M : Type 1} → statement M
@@ -48,7 +48,7 @@ first-table-spec =
     enum-told
     enum-told-2
     enum-known-shape
-    delta-table-requires
+    change-table-requires
     returns
     returns-2
     returns-3)

@@ -4,9 +4,8 @@ use denote.Ref.{now}
 use Rattle.model.specs.Keys.{usualSalts}
 use Rattle.arms.specs.Arms.{ShapeBelow}
 use Rattle.arms.specs.declared.Shape.{Shape}
-use Rattle.keys.specs.Deltas.{SignMasks}
-use Rattle.deltas.specs.Tables.{walkedRows, secondTable}
-use mathlib.Core.List.{[], _∷_}
+use Rattle.keys.specs.Changes.{SignMasks}
+use Rattle.deltas.specs.Tables.{walkedRows, four, secondTable}
 use Prim.Native.Nat.{ℕ}
 use Rattle.model.specs.Keys.{rowMask}
 use Rattle.model.specs.declared.Salts.{Salts}
@@ -17,8 +16,8 @@ use Rattle.deltas.proofs.second_table.Tie as tie
 enum-known-shape : tie.Need-enum-known-shape
 enum-known-shape c = search needs
 
-delta-table-requires : tie.Need-delta-table-requires
-delta-table-requires c κs =
+change-table-requires : tie.Need-change-table-requires
+change-table-requires c κs =
     let s = c .before .before .before .before in
     (subst (ShapeBelow 64) (c .before .shape .given .1) (s .pre .2), s .pre .0, s .pre .1)
 
@@ -34,8 +33,8 @@ loss-mask-requires c κs = search needs
 enum-known-shape-3 : tie.Need-enum-known-shape-3
 enum-known-shape-3 c = search needs
 
-delta-table-requires-2 : tie.Need-delta-table-requires-2
-delta-table-requires-2 c κs =
+change-table-requires-2 : tie.Need-change-table-requires-2
+change-table-requires-2 c κs =
     let s = c .before .before .before .before in
     (subst (ShapeBelow 64) (c .before .shape3 .given .1) (s .pre .2) .1, s .pre .0, s .pre .1)
 
@@ -45,7 +44,7 @@ returns c =
     let s = c .before .before .before .before .before in
     let a = s .args in
     let e = c .before .before .shape .given .1 in
-    c .delta-table .ensures usualSalts (subst (λ (h : Shape). SignMasks usualSalts (walkedRows h (a .n)) (now (a .masks))) e (s .pre .3))
+    c .change-table .ensures usualSalts (subst (λ (h : Shape). SignMasks usualSalts (walkedRows h (a .n)) (now (a .masks))) e (s .pre .3))
     ∙ sym (ap (λ (h : Shape). secondTable h (a .n) (now (a .rows))) e)
 
 returns-2 : tie.Need-returns-2
@@ -53,7 +52,7 @@ unfolding secondTable
 returns-2 c =
     let a = c .before .before .before .before .before .before .args in
     let m = c .loss-mask .ensures ∙ ap (λ (s : Salts). rowMask (c .before .before .before .shape2 .given .0 .0) (s .loss)) (c .before .usual-salts .ensures) in
-    ap (λ (x : ℕ). x ∷ x ∷ x ∷ x ∷ []) m ∙ sym (ap (λ (h : Shape). secondTable h (a .n) (now (a .rows))) (c .before .before .before .shape2 .given .1))
+    ap (λ (x : ℕ). four (record { delta = x; low = 0; high = 0 })) m ∙ sym (ap (λ (h : Shape). secondTable h (a .n) (now (a .rows))) (c .before .before .before .shape2 .given .1))
 
 returns-3 : tie.Need-returns-3
 unfolding secondTable walkedRows
@@ -61,7 +60,7 @@ returns-3 c =
     let s = c .before .before .before .before .before in
     let a = s .args in
     let e = c .before .before .shape3 .given .1 in
-    c .delta-table2 .ensures usualSalts (subst (λ (h : Shape). SignMasks usualSalts (walkedRows h (a .n)) (now (a .masks))) e (s .pre .3))
+    c .change-table2 .ensures usualSalts (subst (λ (h : Shape). SignMasks usualSalts (walkedRows h (a .n)) (now (a .masks))) e (s .pre .3))
     ∙ sym (ap (λ (h : Shape). secondTable h (a .n) (now (a .rows))) e)
 
 pub second-table-spec : {M : Type 1} → statement M
@@ -69,12 +68,12 @@ second-table-spec =
     tie.close
     (tie.spec
     enum-known-shape
-    delta-table-requires
+    change-table-requires
     enum-known-shape-2
     usual-salts-requires
     loss-mask-requires
     enum-known-shape-3
-    delta-table-requires-2
+    change-table-requires-2
     returns
     returns-2
     returns-3)

@@ -3,8 +3,8 @@ use mathlib.Core.Path.{_≡_, refl}
 use Prim.Native.Nat.{_≤_, _-_}
 use native.Mathlib.Omega.{arith}
 use borrow.Author.Needs.{needs}
-use Rattle.keys.specs.Deltas.{SignMasks}
-use Rattle.keys.proofs.DeltaTables.{masks-none, masks-more}
+use Rattle.keys.specs.Changes.{SignMasks}
+use Rattle.keys.proofs.ChangeTables.{masks-none, masks-more}
 use Rattle.keys.proofs.sign_masks.Statement.{statement}
 use Rattle.keys.proofs.sign_masks.Tie as tie
 

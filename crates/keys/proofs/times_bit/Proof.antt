@@ -1,6 +1,6 @@
 -- `keys::times_bit` meets its contract. Assumes nothing.
 use native.Mathlib.Omega.{arith}
-use Rattle.keys.proofs.DeltaTables.{pick-times, times-le}
+use Rattle.keys.proofs.ChangeTables.{pick-times, times-le}
 use Rattle.keys.proofs.times_bit.Statement.{statement}
 use Rattle.keys.proofs.times_bit.Tie as tie
 

@@ -21,18 +21,18 @@ element-copy-out-key : tie.Need-element-copy-out-key
 element-copy-out-key c = search needs
 
 mutation-at-requires : tie.Need-mutation-at-requires
-mutation-at-requires c κs = c .before .before .pre .1 .2
+mutation-at-requires c κs = c .before .before .before .pre .1 .2
 
 make-branch-requires : tie.Need-make-branch-requires
 make-branch-requires c κs =
-    let s = c .before .before .before .before in
+    let s = c .before .before .before .before .before in
     let a = s .args in
     let m = c .before .mutation-at .ensures in
     (packed-within (s .pre .0 .0), s .pre .0 .2, omega (arith, stride-le (entryLen (a .size)) (a .count) (a .size .capacity) (s .pre .0 .3), s .pre .0 .0 .sized .words), rw m (s .pre .1 .0), rw m (s .pre .1 .1))
 
 note-requires : tie.Need-note-requires
 note-requires c κs =
-    let s = c .before .before .before .before .before .before .before .before .before in
+    let s = c .before .before .before .before .before .before .before .before .before .before in
     (omega (arith, s .pre .0 .3, s .pre .0 .0 .sized .capacity .high), s .pre .0 .1 .keysLong, s .pre .0 .1 .firstsLong)
 
 same-length : tie.Need-same-length
@@ -40,12 +40,12 @@ same-length c = search needs
 
 returns : tie.Need-returns
 returns c =
-    let s = c .before .before .before .before .before .before .before .before .before .before in
+    let s = c .before .before .before .before .before .before .before .before .before .before .before in
     let a = s .args in
     let g = s .pre .0 .0 in
     let w = now (a .store) in
     let same = appended-keys (a .size) (a .count) w g (mutationAt (a .shape) (a .a)) (a .weight) (a .i) (s .pre .0 .2) (s .pre .0 .3) in
-    let key = key-made (a .size) (a .count) w g (mutationAt (a .shape) (a .a)) (a .weight) (a .i) (s .pre .0 .2) (now (a .keys)) (now (a .firsts)) (s .pre .0 .1) (a .delta) (s .pre .1 .1) in
+    let key = key-made (a .size) (a .count) w g (mutationAt (a .shape) (a .a)) (a .weight) (a .i) (s .pre .0 .2) (now (a .keys)) (now (a .firsts)) (s .pre .0 .1) (a .change) (s .pre .1 .1) in
     let last = appended-last (a .size) (a .count) w g (mutationAt (a .shape) (a .a)) (a .weight) (a .i) (s .pre .0 .2) (s .pre .0 .3) in
     let made = rw (c .before .before .before .before .before .before .before .mutation-at .ensures) at (c .before .before .before .before .before .make-branch .ensures) in
     (made, rw made (one-noted (seenAt (a .size) [] (now (a .store))) (seenAt (a .size) [] _) (s .pre .0 .1) same (omega (arith, s .pre .0 .3, g .sized .capacity .high)) (key ∙ last) (c .note .ensures .0) (c .note .ensures .1)))

@@ -1,5 +1,5 @@
 -- `merging::merge_one_changed` meets its contract. Each return is a law of store's Merge, on the words that the branch would have. Assumes nothing.
-use mathlib.Core.Path.{_≡_, sym, ap, ap₂, _∙_}
+use mathlib.Core.Path.{sym, ap, ap₂, _∙_}
 use mathlib.Core.List.{[]}
 use Prim.Native.Nat.{ℕ, _+_, _*_, _≤_}
 use native.Mathlib.Omega.{arith}
@@ -23,10 +23,10 @@ use Rattle.merging.proofs.merge_one_changed.Tie as tie
 
 -- The found place lies below the count, so its entry lies in the store.
 place : (c : tie.After-known-told) →
-    let a = c .before .before .before .before .before .before .before .before .before .args in
+    let a = c .before .before .before .before .before .before .before .before .before .before .args in
     c .before .found .given .0 .0 * entryLen (a .size) + entryLen (a .size) ≤ length (now (a .store))
 place c =
-    let s = c .before .before .before .before .before .before .before .before .before in
+    let s = c .before .before .before .before .before .before .before .before .before .before in
     let a = s .args in
     let g = s .pre .0 .0 in
     let w = now (a .store) in
@@ -45,7 +45,7 @@ element-copy-out-key c = search needs
 
 seek-arm-requires : tie.Need-seek-arm-requires
 seek-arm-requires c κs =
-    let s = c .before .before .before .before .before in
+    let s = c .before .before .before .before .before .before in
     let a = s .args in
     let g = s .pre .0 .0 in
     let w = now (a .store) in (
@@ -54,7 +54,8 @@ seek-arm-requires c κs =
         omega (arith, stride-le (entryLen (a .size)) (a .i) (a .count) (s .pre .0 .2), within (a .size) (a .count) w g),
         s .pre .0 .3,
         s .pre .1 .0,
-        key-is (a .size) (a .count) w g (mutationAt (a .shape) (a .a)) (a .weight) (a .i) (s .pre .0 .2) (now (a .keys)) (now (a .firsts)) (s .pre .0 .1) (a .delta) (s .pre .1 .1),
+        key-is (a .size) (a .count) w g (mutationAt (a .shape) (a .a)) (a .weight) (a .i) (s .pre .0 .2) (now (a .keys)) (now (a .firsts)) (s .pre .0 .1) (a .change) (s .pre .1 .1),
+        s .pre .1 .1,
       ),
     )
 
@@ -69,7 +70,7 @@ float-of-requires c κs = search needs
 
 append-changed-requires : tie.Need-append-changed-requires
 append-changed-requires c κs =
-    let s = c .before .before .before .before .before .before .before .before .before .before .before .before .before .before .before in
+    let s = c .before .before .before .before .before .before .before .before .before .before .before .before .before .before .before .before in
     ((s .pre .0 .0, s .pre .0 .1, s .pre .0 .2, c .before .before .before .if2 .taken), (s .pre .1 .0, s .pre .1 .1, s .pre .1 .2))
 
 same-length : tie.Need-same-length
@@ -78,7 +79,7 @@ same-length c = search needs
 returns : tie.Need-returns
 unfolding countBy entryOf wordsOf reweighed
 returns c =
-    let s = c .before .before .before .before .before .before .before .before .before .before .before .before .before .before .before .before .before .before in
+    let s = c .before .before .before .before .before .before .before .before .before .before .before .before .before .before .before .before .before .before .before in
     let a = s .args in
     let g = s .pre .0 .0 in
     let w = now (a .store) in
@@ -96,7 +97,7 @@ same-length-2 c = search needs
 returns-2 : tie.Need-returns-2
 unfolding countBy entryOf wordsOf reweighed
 returns-2 c =
-    let s = c .before .before .before .before .before .before .before .before .before .before .before .before in
+    let s = c .before .before .before .before .before .before .before .before .before .before .before .before .before in
     let a = s .args in
     let g = s .pre .0 .0 in
     let w = now (a .store) in
@@ -112,7 +113,7 @@ same-length-3 c = search needs
 returns-3 : tie.Need-returns-3
 unfolding countBy entryOf wordsOf reweighed
 returns-3 c =
-    let s = c .before .before .before .before .before .before .before .before .before .before in
+    let s = c .before .before .before .before .before .before .before .before .before .before .before in
     let a = s .args in
     let g = s .pre .0 .0 in
     let w = now (a .store) in
@@ -155,7 +156,7 @@ same-length-4 c = search needs
 returns-4 : tie.Need-returns-4
 unfolding countBy wordsOf reweighed
 returns-4 c =
-    let s = c .before .before .before .before .before .before .before .before .before .before .before .before .before .before in
+    let s = c .before .before .before .before .before .before .before .before .before .before .before .before .before .before .before in
     let a = s .args in
     let g = s .pre .0 .0 in
     let w = now (a .store) in

@@ -31,7 +31,7 @@ seek-listed-requires : tie.Need-seek-listed-requires
 seek-listed-requires c κs =
     let s = c .before .before .before .before in
     let m = c .mutation-at .ensures in
-    ((s .pre .0 .0, s .pre .0 .1, s .pre .0 .2, s .pre .0 .3), (s .pre .1 .0, s .pre .1 .1, rw m (s .pre .1 .2), rw m (s .pre .1 .3)))
+    ((s .pre .0 .0, s .pre .0 .1, s .pre .0 .2, s .pre .0 .3), (s .pre .1 .0, s .pre .1 .1, rw m (s .pre .1 .2), rw m (s .pre .1 .3), rw m (s .pre .1 .4)))
 
 returns-2 : tie.Need-returns-2
 returns-2 c = rw (c .before .mutation-at .ensures) at (c .seek-listed .ensures)

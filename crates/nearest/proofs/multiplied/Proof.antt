@@ -8,7 +8,8 @@ use lib.Ieee.{inf, binary64, div, ofBits}
 use mathlib.Core.Bool.{false}
 use borrow.Author.Needs.{needs}
 use Rattle.nearest.proofs.Patterns.{read-back}
-use Rattle.nearest.proofs.Far.{zero-rounded, too-far-up}
+use Rattle.words.proofs.Rounded.{zero-rounded}
+use Rattle.nearest.proofs.Far.{too-far-up}
 use Rattle.nearest.proofs.multiplied.Statement.{statement}
 use Rattle.nearest.proofs.multiplied.Tie as tie
 

@@ -15,6 +15,7 @@ use Rattle.store.proofs.Merge.{packed-within}
 use Rattle.places.proofs.Arranged.{at-most}
 use Rattle.places.proofs.Walked.{entryAt}
 use Rattle.reset.proofs.Returning.{weight-word, Sought, listed-in, place-below, came-merged, came-stored, came-dropped}
+use Rattle.keys.proofs.Flips.{loss-is}
 use borrow.Author.Needs.{needs}
 use Rattle.reset.proofs.bring_back.Statement.{statement}
 use Rattle.reset.proofs.bring_back.Tie as tie
@@ -26,10 +27,10 @@ inside c =
     omega (arith, stride-le (entryLen (a .size)) (a .i) (a .total) (c .pre .0 .5), within (a .size) (a .total) (now (a .store)) (c .pre .0 .0))
 
 sought : (c : tie.After-seek) →
-    let a = c .before .before .before .before .before .before .before .before .before .args in
+    let a = c .before .before .before .before .before .before .before .before .before .before .args in
     Sought (a .size) (a .total) (a .count) (a .threshold) (a .i) (a .q) (now (a .order)) (now (a .store)) (now (a .keys)) (now (a .firsts)) (c .seek .result)
 sought c =
-    let s = c .before .before .before .before .before .before .before .before .before in
+    let s = c .before .before .before .before .before .before .before .before .before .before in
     record {
       packed = s .pre .0 .0;
       long = s .pre .0 .1;
@@ -49,21 +50,24 @@ place c =
 
 -- its weight is above the cutoff, or not
 admits : (c : tie.After-float-of) (b : Bool) →
-    let a = c .before .before .before .before .before .before .before .before .before .before .before .before .before .before .args in
+    let a = c .before .before .before .before .before .before .before .before .before .before .before .before .before .before .before .args in
     lt (a .cutoff) (c .float-of .result) ≡ b → aboveCutoff (a .cutoff) (weightOf keyedWeighed (entryAt (a .size) (now (a .store)) (a .i))) ≡ b
 admits c b t =
-    let a = c .before .before .before .before .before .before .before .before .before .before .before .before .before .before .args in
+    let a = c .before .before .before .before .before .before .before .before .before .before .before .before .before .before .before .args in
     ap (lt (a .cutoff)) (sym (c .float-of .ensures ∙ ap float (weight-word (a .size) (c .before .before .entry-len .result) (a .i) (now (a .store)) (c .before .before .entry-len .ensures)))) ∙ t
 
 live-key-requires : tie.Need-live-key-requires
 live-key-requires c κs = let s = c .before .before in (packed-within (s .pre .0 .0), inside s)
 
+loss-change-requires : tie.Need-loss-change-requires
+loss-change-requires c κs = search needs
+
 seek-requires : tie.Need-seek-requires
 seek-requires c κs =
-    let s = c .before .before .before .before .before .before .before .before in
+    let s = c .before .before .before .before .before .before .before .before .before in
     let p = s .pre .0 .0 in (
       (packed-within p, omega (arith, s .pre .0 .4, at-most p), listed-in p (s .pre .0 .4) (s .pre .0 .1) (s .pre .0 .2), s .pre .0 .3),
-      (inside s, s .pre .1 .0, s .pre .1 .1, c .before .before .before .before .before .live-key .ensures),
+      (inside s, s .pre .1 .0, s .pre .1 .1, c .before .before .before .before .before .before .live-key .ensures, c .loss-change .ensures ∙ loss-is _ _ _),
     )
 
 enum-known-found : tie.Need-enum-known-found
@@ -76,13 +80,13 @@ entry-len-requires : tie.Need-entry-len-requires
 entry-len-requires c κs = search needs
 
 mul-float-of : tie.Need-mul-float-of
-mul-float-of c = omega (arith, c .entry-len .ensures, rw (sym (c .entry-len .ensures)) at (inside (c .before .before .before .before .before .before .before .before .before .before .before .before)))
+mul-float-of c = omega (arith, c .entry-len .ensures, rw (sym (c .entry-len .ensures)) at (inside (c .before .before .before .before .before .before .before .before .before .before .before .before .before)))
 
 mul-float-of-2 : tie.Need-mul-float-of-2
-mul-float-of-2 c = omega (arith, c .entry-len .ensures, rw (sym (c .entry-len .ensures)) at (inside (c .before .before .before .before .before .before .before .before .before .before .before .before)))
+mul-float-of-2 c = omega (arith, c .entry-len .ensures, rw (sym (c .entry-len .ensures)) at (inside (c .before .before .before .before .before .before .before .before .before .before .before .before .before)))
 
 slice-read-float-of : tie.Need-slice-read-float-of
-slice-read-float-of c = omega (arith, c .before .entry-len .ensures, rw (sym (c .before .entry-len .ensures)) at (inside (c .before .before .before .before .before .before .before .before .before .before .before .before .before)))
+slice-read-float-of c = omega (arith, c .before .entry-len .ensures, rw (sym (c .before .entry-len .ensures)) at (inside (c .before .before .before .before .before .before .before .before .before .before .before .before .before .before)))
 
 float-of-requires : tie.Need-float-of-requires
 float-of-requires c κs = search needs
@@ -91,10 +95,10 @@ revive-requires : tie.Need-revive-requires
 revive-requires c κs = search needs
 
 mul-order : tie.Need-mul-order
-mul-order c = search needs
+mul-order c = let s = c .before .before .before .before .before .before .before .before .before .before .before .before .before .before .before .before .before .before .before .before in omega (arith, s .pre .0 .4, at-most (s .pre .0 .0))
 
 element-write-order : tie.Need-element-write-order
-element-write-order c = search needs
+element-write-order c = let s = c .before .before .before .before .before .before .before .before .before .before .before .before .before .before .before .before .before .before .before .before in omega (arith, s .pre .0 .4, at-most (s .pre .0 .0))
 
 note-requires : tie.Need-note-requires
 note-requires c κs =
@@ -107,16 +111,16 @@ same-length c = search needs
 returns : tie.Need-returns
 returns c =
     let v = c .before .before .before .before .before .revive in
-    let k = c .before .before .before .before .before .before .before .before .before .before .before .before .before .before .before .before .before .before .before .live-key in
+    let k = c .before .before .before .before .before .before .before .before .before .before .before .before .before .before .before .before .before .before .before .before .live-key in
     let n = c .note in
-    came-stored (sought (c .before .before .before .before .before .before .before .before .before .before .before .before .before)) (c .before .before .before .before .before .before .before .before .before .before .before .enum-told .given .1) (v .last .0) (v .ensures .1) (c .before .before .before .before .before .before .before .before .before .before .before .before .before .before .before .before .before .before .before .before .before .before .args .cutoff) (admits (c .before .before .before .before .before .before .before .before) true (c .before .before .before .before .before .before .before .if1 .taken)) (v .ensures .0)
+    came-stored (sought (c .before .before .before .before .before .before .before .before .before .before .before .before .before)) (c .before .before .before .before .before .before .before .before .before .before .before .enum-told .given .1) (v .last .0) (v .ensures .1) (c .before .before .before .before .before .before .before .before .before .before .before .before .before .before .before .before .before .before .before .before .before .before .before .args .cutoff) (admits (c .before .before .before .before .before .before .before .before) true (c .before .before .before .before .before .before .before .if1 .taken)) (v .ensures .0)
     (k .result) (k .ensures) (n .last .0) (n .last .1 .0) (n .ensures .0) (n .ensures .1)
 
 same-length-2 : tie.Need-same-length-2
 same-length-2 c = search needs
 
 returns-2 : tie.Need-returns-2
-returns-2 c = came-dropped (sought (c .before .before .before .before .before .before)) (c .before .before .before .before .enum-told .given .1) (c .before .before .before .before .before .before .before .before .before .before .before .before .before .before .before .args .cutoff) (admits (c .before) false (c .if1 .left))
+returns-2 c = came-dropped (sought (c .before .before .before .before .before .before)) (c .before .before .before .before .enum-told .given .1) (c .before .before .before .before .before .before .before .before .before .before .before .before .before .before .before .before .args .cutoff) (admits (c .before) false (c .if1 .left))
 
 mul-to : tie.Need-mul-to
 mul-to c = omega (arith, place c)
@@ -137,13 +141,14 @@ returns-3 : tie.Need-returns-3
 returns-3 c =
     let f = c .before .before .before .before .before .before .found .given in
     let g = c .before .before .gain in
-    came-merged (sought (c .before .before .before .before .before .before .before .before)) (f .0 .0) (f .1) (g .last .0) (g .ensures .1) (c .before .before .before .before .before .before .before .before .before .before .before .before .before .before .before .before .before .args .cutoff) (g .ensures .0)
+    came-merged (sought (c .before .before .before .before .before .before .before .before)) (f .0 .0) (f .1) (g .last .0) (g .ensures .1) (c .before .before .before .before .before .before .before .before .before .before .before .before .before .before .before .before .before .before .args .cutoff) (g .ensures .0)
 
 pub bring-back-spec : {M : Type 1} → statement M
 bring-back-spec =
     tie.close
     (tie.spec
     live-key-requires
+    loss-change-requires
     seek-requires
     enum-known-found
     enum-told

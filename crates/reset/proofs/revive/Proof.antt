@@ -30,20 +30,20 @@ usual-salts-requires c κs = search needs
 loss-mask-requires : tie.Need-loss-mask-requires
 loss-mask-requires c κs = search needs
 
-mul-change-entry : tie.Need-mul-change-entry
-mul-change-entry c = omega (arith, inside (c .before .before))
+mul-toggle-entry : tie.Need-mul-toggle-entry
+mul-toggle-entry c = omega (arith, inside (c .before .before))
 
-sub-change-entry : tie.Need-sub-change-entry
-sub-change-entry c = search needs
+sub-toggle-entry : tie.Need-sub-toggle-entry
+sub-toggle-entry c = search needs
 
-part-change-entry-start : tie.Need-part-change-entry-start
-part-change-entry-start c = search needs
+part-toggle-entry-start : tie.Need-part-toggle-entry-start
+part-toggle-entry-start c = search needs
 
-part-change-entry-end : tie.Need-part-change-entry-end
-part-change-entry-end c = omega (arith, inside (c .before .before))
+part-toggle-entry-end : tie.Need-part-toggle-entry-end
+part-toggle-entry-end c = omega (arith, inside (c .before .before))
 
-change-entry-requires : tie.Need-change-entry-requires
-change-entry-requires c κs =
+toggle-entry-requires : tie.Need-toggle-entry-requires
+toggle-entry-requires c κs =
     let n = c .before .before .before in
     let b = n .before .before in
     let a = b .args in
@@ -63,7 +63,7 @@ returns c =
     let n = f .before .before .before .before in
     let b = n .before .before in
     let a = b .args in
-    revived (a .size) (a .total) (now (a .store)) (b .pre .0) (n .entry-len .result) (n .entry-len .ensures) (a .i) (b .pre .1) (a .q) _ (f .change-entry .ensures)
+    revived (a .size) (a .total) (now (a .store)) (b .pre .0) (n .entry-len .result) (n .entry-len .ensures) (a .i) (b .pre .1) (a .q) _ (f .toggle-entry .ensures)
 
 pub revive-spec : {M : Type 1} → statement M
 revive-spec =
@@ -74,10 +74,10 @@ revive-spec =
     add-end
     usual-salts-requires
     loss-mask-requires
-    mul-change-entry
-    sub-change-entry
-    part-change-entry-start
-    part-change-entry-end
-    change-entry-requires
+    mul-toggle-entry
+    sub-toggle-entry
+    part-toggle-entry-start
+    part-toggle-entry-end
+    toggle-entry-requires
     same-length
     returns)

@@ -18,7 +18,7 @@ walk-from-requires c κs =
     let s = c .before .before .before .before in
     let first = c .before .first-place .ensures in (
       (s .pre .0 .0, s .pre .0 .1, s .pre .0 .2, s .pre .0 .3 .kept),
-      (s .pre .1 .0, s .pre .1 .1, s .pre .1 .2, s .pre .1 .3, rw first (begins _ _ _ _ _ _ _ (s .pre .0 .3) (s .args .key) (s .pre .1 .3) (omega (arith, c .if1 .left, first)))),
+      (s .pre .1 .0, s .pre .1 .1, s .pre .1 .2, s .pre .1 .3, rw first (begins _ _ _ _ _ _ _ (s .pre .0 .3) (s .args .key) (s .pre .1 .3) (omega (arith, c .if1 .left, first))), s .pre .1 .4),
     )
 
 returns-2 : tie.Need-returns-2

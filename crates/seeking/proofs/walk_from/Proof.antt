@@ -4,9 +4,9 @@
 use mathlib.Core.Path.{_≡_, refl, _∙_, sym, ap}
 use mathlib.Core.Bool.{true, false}
 use mathlib.Core.List.{List}
+use mathlib.Core.Logic.{inl}
 use Prim.Native.Nat.{ℕ, _≤_, _-_, _+_, _*_}
 use native.Mathlib.Omega.{arith}
-use lib.Ieee.{Float}
 use lib.ListN.{drop, getD}
 use denote.Ref.{now}
 use Rattle.model.specs.Lists.{allBelow}
@@ -18,30 +18,31 @@ use Rattle.model.specs.declared.Size.{Size}
 use Rattle.model.specs.declared.BranchMutation.{BranchMutation}
 use Rattle.model.proofs.Lists.{all-none}
 use Rattle.model.proofs.Entries.{bodyOf, coefs-part}
+use Rattle.keys.specs.Changes.{flipBits, changeOf}
 use Rattle.likeness.proofs.Alike.{sameAt, unlike-loss, unlike-count, unlike-value, alike-all, NearBelow, near-none, near-more}
 use Rattle.store.proofs.Walk.{Walking, ended, other-key, unlike, hit}
 use Rattle.seeking.specs.Noted.{seenAt, gathered}
 use Rattle.seeking.proofs.Noting.{length-gathered, gathered-at}
-use Rattle.seeking.proofs.Rows.{changed, loss-is, count-is, coefs-is, coefs-length, lent-length, part-same, part-differs}
+use Rattle.seeking.proofs.Rows.{changed, lentRows, lent-bits, PartAt, next-part, part-flips, loss-is, count-is, coefs-is, coefs-length, lent-length, part-same, part-differs}
 use Rattle.seeking.proofs.Seeking.{listed-below}
 use borrow.Author.Needs.{needs}
 use Rattle.seeking.proofs.walk_from.Statement.{statement}
 use Rattle.seeking.proofs.walk_from.Tie as tie
 
 abbrev Inv-loop : tie.InvT-loop
-Inv-loop store places keys size count threshold origin m key first rows row-count limit parent compared i place e f r₀ r =
-    (r ≤ row-count) × (allBelow (sameAt (drop rows e) (changed size m parent .rows)) (3 * r) ≡ true)
+Inv-loop store places keys size count threshold origin m change key first rows row-count limit parent compared i place e r₀ r =
+    (r ≤ row-count) × PartAt (size .n) r × (allBelow (sameAt (drop rows e) (changed size m parent .rows)) (3 * r) ≡ true)
 
 abbrev μ-loop : tie.MeasureT-loop
-μ-loop store places keys size count threshold origin m key first rows row-count limit parent compared i place e f r₀ r =
+μ-loop store places keys size count threshold origin m change key first rows row-count limit parent compared i place e r₀ r =
     row-count - r
 
 abbrev Inv-loop2 : tie.InvT-loop2
-Inv-loop2 store places keys size count threshold origin m key first rows row-count limit parent compared i place r coefs parent-coefs coefficients rises c₀ c =
+Inv-loop2 store places keys size count threshold origin m change key first rows row-count limit parent compared i place r coefs parent-coefs coefficients rises c₀ c =
     (c ≤ coefficients) × NearBelow limit coefs parent-coefs coefficients c
 
 abbrev μ-loop2 : tie.MeasureT-loop2
-μ-loop2 store places keys size count threshold origin m key first rows row-count limit parent compared i place r coefs parent-coefs coefficients rises c₀ c =
+μ-loop2 store places keys size count threshold origin m change key first rows row-count limit parent compared i place r coefs parent-coefs coefficients rises c₀ c =
     coefficients - c
 
 -- the branch, and the list
@@ -52,11 +53,11 @@ abbrev list : Size → (count : ℕ) → (places store : List ℕ) → List Keye
 list s count places store = gathered count (seenAt s places store)
 
 abbrev Inv-keys : tie.InvT-keys
-Inv-keys store places keys size count threshold origin m key first rows row-count limit parent compared₀ i₀ compared i =
+Inv-keys store places keys size count threshold origin m change key first rows row-count limit parent compared₀ i₀ compared i =
     Walking size threshold (branch size m parent) (list size count places store) compared i
 
 abbrev μ-keys : tie.MeasureT-keys
-μ-keys store places keys size count threshold origin m key first rows row-count limit parent compared₀ i₀ compared i =
+μ-keys store places keys size count threshold origin m change key first rows row-count limit parent compared₀ i₀ compared i =
     count - i
 
 -- the key is that of the changed parent
@@ -94,6 +95,26 @@ unfolding entryOf
 few c =
     let e = ap (λ (v : List ℕ). getD v 4 0) (c .before .before .before .before .before .before .before .before .before .before .before .before .entry .ensures .0) in
     omega (arith, c .if4 .left, e, c .before .before .before .before .before .before .before .before .before .before .before .before .before .before .before .before .before .pre .1 .1)
+
+-- the change is what the mutation changes of the parent
+the-change : (c : tie.After-entry Inv-loop μ-loop Inv-loop2 μ-loop2 Inv-keys μ-keys) →
+    let a = c .before .before .before .before .before .args in
+    a .c ≡ changeOf usualSalts (a .size .n) (a .m) (bodyOf (a .size) (now (c .entry .result)) .rows)
+the-change c = rw (c .entry .ensures .0) (c .before .before .before .before .before .pre .1 .5)
+
+-- so these are the bits of the rows that are compared next
+flips-are : (c : tie.After-flips-from Inv-loop μ-loop Inv-loop2 μ-loop2 Inv-keys μ-keys) →
+    let a = c .before .before .before .before .before .before .before .before .before .before .before .before .before .before .before .before .before .before .before .before .before .args in
+    c .flips-from .result ≡ flipBits (a .m) (lentRows (a .size) (c .before .before .before .loop .r) (c .before .few-of .result) (now (c .before .before .before .before .before .before .before .before .before .before .before .before .before .before .before .before .entry .result))) 0 (c .before .few-of .result)
+flips-are c =
+    let s = c .before .before .before .before .before .before .before .before .before .before .before .before .before .before .before .before .before .before .before .before .before in
+    let a = s .args in
+    let l = c .before .before .before .loop in
+    let many = c .before .few-of in
+    let p = c .before .before .before .before .before .before .before .before .before .before .before .before .before .before .before .before .entry in
+    c .flips-from .ensures
+    ∙ part-flips (a .size .n) (s .pre .0 .0 .qubits) (l .r) (many .result) (c .before .before .loop-test .taken) (many .ensures) (a .m) (bodyOf (a .size) (now (p .result)) .rows) (a .c) (the-change (c .before .before .before .before .before .before .before .before .before .before .before .before .before .before .before .before)) (l .inv .1)
+    ∙ sym (lent-bits (a .size) (a .m) (now (p .result)) (now (c .before .before .before .before .before .before .before .before .before .before .before .entry-at .result)) (p .ensures .1) (l .r) (many .result))
 
 mul-rows : tie.Need-mul-rows Inv-loop μ-loop Inv-loop2 μ-loop2 Inv-keys μ-keys
 mul-rows c = search needs
@@ -177,17 +198,17 @@ keys-again-3 c =
     let p = now (c .before .before .before .before .before .before .before .before .before .before .before .before .entry .result) in
     passed (c .before .before .before .before .before .before .before) (unlike-count (a .size) (a .threshold) (bodyOf (a .size) (now (c .before .before .before .before .before .before .before .entry-at .result))) (changed (a .size) (a .m) p) (λ g. c .if4 .taken (g ∙ count-is (a .size) (a .m) p (c .before .before .before .before .before .before .before .before .before .before .before .before .entry .ensures .1))))
 
-flip-of-requires : tie.Need-flip-of-requires Inv-loop μ-loop Inv-loop2 μ-loop2 Inv-keys μ-keys
-flip-of-requires c κs = c .before .before .before .before .before .before .before .before .before .before .before .before .before .before .before .before .before .pre .1 .2
-
 loop-holds : tie.Need-loop-holds Inv-loop μ-loop Inv-loop2 μ-loop2 Inv-keys μ-keys
-loop-holds c = (omega arith, all-none _)
+loop-holds c = (omega arith, inl refl, all-none _)
 
 sub-few-of : tie.Need-sub-few-of Inv-loop μ-loop Inv-loop2 μ-loop2 Inv-keys μ-keys
 sub-few-of c = search needs
 
 few-of-requires : tie.Need-few-of-requires Inv-loop μ-loop Inv-loop2 μ-loop2 Inv-keys μ-keys
 few-of-requires c κs = search needs
+
+flips-from-requires : tie.Need-flips-from-requires Inv-loop μ-loop Inv-loop2 μ-loop2 Inv-keys μ-keys
+flips-from-requires c κs = search needs
 
 mul-at : tie.Need-mul-at Inv-loop μ-loop Inv-loop2 μ-loop2 Inv-keys μ-keys
 mul-at c = search needs
@@ -231,23 +252,23 @@ part-same-part-end-2 c = search needs
 same-part-requires : tie.Need-same-part-requires Inv-loop μ-loop Inv-loop2 μ-loop2 Inv-keys μ-keys
 same-part-requires c κs =
     let a = c .before .before .before .before .before .before .before .before .before .before .before .before .before .before .before .before .before .before .before .before .before .before .before .args in
-    let many = c .before .before .few-of in
-    let b : c .before .before .before .before .loop .r + many .result ≤ 2 * a .size .n = omega (arith, many .ensures, c .before .before .before .loop-test .taken) in
-    let length = lent-length (a .size) (a .m) (now (c .before .before .before .before .before .before .before .before .before .before .before .before .before .before .before .before .before .before .entry .result)) (now (c .before .before .before .before .before .before .before .before .before .before .before .before .before .entry-at .result)) (c .before .before .before .before .before .before .before .before .before .before .before .before .before .before .before .before .before .before .entry .ensures .1) (c .before .before .before .before .loop .r) (many .result) in
+    let many = c .before .before .before .few-of in
+    let b : c .before .before .before .before .before .loop .r + many .result ≤ 2 * a .size .n = omega (arith, many .ensures, c .before .before .before .before .loop-test .taken) in
+    let length = lent-length (a .size) (a .m) (now (c .before .before .before .before .before .before .before .before .before .before .before .before .before .before .before .before .before .before .entry .result)) (now (c .before .before .before .before .before .before .before .before .before .before .before .before .before .entry-at .result)) (c .before .before .before .before .before .before .before .before .before .before .before .before .before .before .before .before .before .before .entry .ensures .1) (c .before .before .before .before .before .loop .r) (many .result) in
     (omega (arith, many .ensures), length (now (c .before .before .before .before .before .before .before .before .before .before .before .before .before .entry-at .result)) (c .before .before .before .before .before .before .before .before .before .before .before .before .before .entry-at .ensures .1) b, length (now (c .before .before .before .before .before .before .before .before .before .before .before .before .before .before .before .before .before .before .entry .result)) (c .before .before .before .before .before .before .before .before .before .before .before .before .before .before .before .before .before .before .entry .ensures .1) b)
 
 add-r : tie.Need-add-r Inv-loop μ-loop Inv-loop2 μ-loop2 Inv-keys μ-keys
-add-r c = omega (arith, c .before .before .before .before .few-of .ensures, c .before .before .before .before .before .before .before .before .before .before .before .before .before .before .before .before .before .before .before .before .before .before .before .before .before .pre .0 .0 .qubits)
+add-r c = omega (arith, c .before .before .before .before .before .few-of .ensures, c .before .before .before .before .before .before .before .before .before .before .before .before .before .before .before .before .before .before .before .before .before .before .before .before .before .pre .0 .0 .qubits)
 
 loop-less : tie.Need-loop-less Inv-loop μ-loop Inv-loop2 μ-loop2 Inv-keys μ-keys
-loop-less c = omega (arith, c .before .before .before .before .few-of .ensures, c .before .before .before .before .before .loop-test .taken)
+loop-less c = omega (arith, c .before .before .before .before .before .few-of .ensures, c .before .before .before .before .before .before .loop-test .taken)
 
 loop-again : tie.Need-loop-again Inv-loop μ-loop Inv-loop2 μ-loop2 Inv-keys μ-keys
 loop-again c =
     let a = c .before .before .before .before .before .before .before .before .before .before .before .before .before .before .before .before .before .before .before .before .before .before .before .before .before .args in
-    let many = c .before .before .before .before .few-of in
-    let b : c .before .before .before .before .before .before .loop .r + many .result ≤ 2 * a .size .n = omega (arith, many .ensures, c .before .before .before .before .before .loop-test .taken) in
-    (b, part-same (a .size) (a .m) (now (c .before .before .before .before .before .before .before .before .before .before .before .before .before .before .before .before .before .before .before .before .entry .result)) (now (c .before .before .before .before .before .before .before .before .before .before .before .before .before .before .before .entry-at .result)) (c .before .before .before .before .before .before .before .before .before .before .before .before .before .before .before .before .before .before .before .before .entry .ensures .1) (c .before .before .before .before .before .before .loop .r) (many .result) b (c .before .same-part .ensures (c .before .before .before .before .before .before .before .before .before .before .before .before .before .before .before .before .before .before .before .before .before .before .before .before .before .args .m) (c .before .before .before .before .before .before .before .flip-of .ensures)) (c .before .before .before .before .before .before .loop .inv .1) (c .if5 .taken))
+    let many = c .before .before .before .before .before .few-of in
+    let b : c .before .before .before .before .before .before .before .loop .r + many .result ≤ 2 * a .size .n = omega (arith, many .ensures, c .before .before .before .before .before .before .loop-test .taken) in
+    (b, next-part (a .size .n) (c .before .before .before .before .before .before .before .before .before .before .before .before .before .before .before .before .before .before .before .before .before .before .before .before .before .pre .0 .0 .qubits) (c .before .before .before .before .before .before .before .loop .r) (many .result) (c .before .before .before .before .before .before .loop-test .taken) (many .ensures) (c .before .before .before .before .before .before .before .loop .inv .1), part-same (a .size) (a .m) (now (c .before .before .before .before .before .before .before .before .before .before .before .before .before .before .before .before .before .before .before .before .entry .result)) (now (c .before .before .before .before .before .before .before .before .before .before .before .before .before .before .before .entry-at .result)) (c .before .before .before .before .before .before .before .before .before .before .before .before .before .before .before .before .before .before .before .before .entry .ensures .1) (c .before .before .before .before .before .before .before .loop .r) (many .result) b (c .before .same-part .ensures (a .m) (flips-are (c .before .before .before .before))) (c .before .before .before .before .before .before .before .loop .inv .2) (c .if5 .taken))
 
 keys-less-4 : tie.Need-keys-less-4 Inv-loop μ-loop Inv-loop2 μ-loop2 Inv-keys μ-keys
 keys-less-4 c = omega (arith, c .before .before .before .before .before .before .before .before .before .before .before .before .before .before .before .before .before .before .if1 .left)
@@ -255,9 +276,9 @@ keys-less-4 c = omega (arith, c .before .before .before .before .before .before 
 keys-again-4 : tie.Need-keys-again-4 Inv-loop μ-loop Inv-loop2 μ-loop2 Inv-keys μ-keys
 keys-again-4 c =
     let a = c .before .before .before .before .before .before .before .before .before .before .before .before .before .before .before .before .before .before .before .before .before .before .before .before .before .args in
-    let many = c .before .before .before .before .few-of in
-    let b : c .before .before .before .before .before .before .loop .r + many .result ≤ 2 * a .size .n = omega (arith, many .ensures, c .before .before .before .before .before .loop-test .taken) in
-    passed (c .before .before .before .before .before .before .before .before .before .before .before .before .before .before .before) (part-differs (a .size) (a .m) (now (c .before .before .before .before .before .before .before .before .before .before .before .before .before .before .before .before .before .before .before .before .entry .result)) (now (c .before .before .before .before .before .before .before .before .before .before .before .before .before .before .before .entry-at .result)) (c .before .before .before .before .before .before .before .before .before .before .before .before .before .before .before .before .before .before .before .before .entry .ensures .1) (c .before .before .before .before .before .before .loop .r) (many .result) b (c .before .same-part .ensures (c .before .before .before .before .before .before .before .before .before .before .before .before .before .before .before .before .before .before .before .before .before .before .before .before .before .args .m) (c .before .before .before .before .before .before .before .flip-of .ensures)) (a .threshold) (c .if5 .left))
+    let many = c .before .before .before .before .before .few-of in
+    let b : c .before .before .before .before .before .before .before .loop .r + many .result ≤ 2 * a .size .n = omega (arith, many .ensures, c .before .before .before .before .before .before .loop-test .taken) in
+    passed (c .before .before .before .before .before .before .before .before .before .before .before .before .before .before .before) (part-differs (a .size) (a .m) (now (c .before .before .before .before .before .before .before .before .before .before .before .before .before .before .before .before .before .before .before .before .entry .result)) (now (c .before .before .before .before .before .before .before .before .before .before .before .before .before .before .before .entry-at .result)) (c .before .before .before .before .before .before .before .before .before .before .before .before .before .before .before .before .before .before .before .before .entry .ensures .1) (c .before .before .before .before .before .before .before .loop .r) (many .result) b (c .before .same-part .ensures (a .m) (flips-are (c .before .before .before .before))) (a .threshold) (c .if5 .left))
 
 sub-coefs : tie.Need-sub-coefs Inv-loop μ-loop Inv-loop2 μ-loop2 Inv-keys μ-keys
 sub-coefs c = search needs
@@ -285,20 +306,20 @@ shared-slice-read-coefficients c = search needs
 
 indices-rise-requires :
     tie.Need-indices-rise-requires Inv-loop μ-loop Inv-loop2 μ-loop2 Inv-keys μ-keys
-indices-rise-requires c κs = omega (arith, few (c .before .before .before .before .before .before), coefs-length (c .before .before .before .before .before .before .before .before .before .before .before .before .before .before .before .before .before .before .before .before .before .before .before .args .size) (now (c .before .before .before .before .before .before .before .before .before .before .before .before .before .before .before .before .before .before .entry .result)) (c .before .before .before .before .before .before .before .before .before .before .before .before .before .before .before .before .before .before .entry .ensures .1))
+indices-rise-requires c κs = omega (arith, few (c .before .before .before .before .before), coefs-length (c .before .before .before .before .before .before .before .before .before .before .before .before .before .before .before .before .before .before .before .before .before .before .args .size) (now (c .before .before .before .before .before .before .before .before .before .before .before .before .before .before .before .before .before .entry .result)) (c .before .before .before .before .before .before .before .before .before .before .before .before .before .before .before .before .before .entry .ensures .1))
 
 loop2-holds : tie.Need-loop2-holds Inv-loop μ-loop Inv-loop2 μ-loop2 Inv-keys μ-keys
 loop2-holds c = (omega arith, near-none _ _ _ _)
 
 near-by-requires : tie.Need-near-by-requires Inv-loop μ-loop Inv-loop2 μ-loop2 Inv-keys μ-keys
 near-by-requires c κs =
-    let m = few (c .before .before .before .before .before .before .before .before .before) in (
-      omega (arith, m, c .loop2-test .taken, coefs-length (c .before .before .before .before .before .before .before .before .before .before .before .before .before .before .before .before .before .before .before .before .before .before .before .before .before .before .args .size) (now (c .before .before .before .before .before .before .before .before .before .before .before .before .before .before .before .before .entry-at .result)) (c .before .before .before .before .before .before .before .before .before .before .before .before .before .before .before .before .entry-at .ensures .1)),
-      (omega (arith, m, coefs-length (c .before .before .before .before .before .before .before .before .before .before .before .before .before .before .before .before .before .before .before .before .before .before .before .before .before .before .args .size) (now (c .before .before .before .before .before .before .before .before .before .before .before .before .before .before .before .before .before .before .before .before .before .entry .result)) (c .before .before .before .before .before .before .before .before .before .before .before .before .before .before .before .before .before .before .before .before .before .entry .ensures .1)), λ h. (c .loop2-test .taken, sym (c .before .before .indices-rise .ensures) ∙ h)),
+    let m = few (c .before .before .before .before .before .before .before .before) in (
+      omega (arith, m, c .loop2-test .taken, coefs-length (c .before .before .before .before .before .before .before .before .before .before .before .before .before .before .before .before .before .before .before .before .before .before .before .before .before .args .size) (now (c .before .before .before .before .before .before .before .before .before .before .before .before .before .before .before .entry-at .result)) (c .before .before .before .before .before .before .before .before .before .before .before .before .before .before .before .entry-at .ensures .1)),
+      (omega (arith, m, coefs-length (c .before .before .before .before .before .before .before .before .before .before .before .before .before .before .before .before .before .before .before .before .before .before .before .before .before .args .size) (now (c .before .before .before .before .before .before .before .before .before .before .before .before .before .before .before .before .before .before .before .before .entry .result)) (c .before .before .before .before .before .before .before .before .before .before .before .before .before .before .before .before .before .before .before .before .entry .ensures .1)), λ h. (c .loop2-test .taken, sym (c .before .before .indices-rise .ensures) ∙ h)),
     )
 
 add-c : tie.Need-add-c Inv-loop μ-loop Inv-loop2 μ-loop2 Inv-keys μ-keys
-add-c c = omega (arith, few (c .before .before .before .before .before .before .before .before .before .before .before), c .before .before .loop2-test .taken, c .before .before .before .before .before .before .before .before .before .before .before .before .before .before .before .before .before .before .before .before .before .before .before .before .before .before .before .before .pre .0 .0 .coefficients)
+add-c c = omega (arith, few (c .before .before .before .before .before .before .before .before .before .before), c .before .before .loop2-test .taken, c .before .before .before .before .before .before .before .before .before .before .before .before .before .before .before .before .before .before .before .before .before .before .before .before .before .before .before .pre .0 .0 .coefficients)
 
 loop2-less : tie.Need-loop2-less Inv-loop μ-loop Inv-loop2 μ-loop2 Inv-keys μ-keys
 loop2-less c = search needs
@@ -314,10 +335,10 @@ keys-less-5 c = search needs
 keys-again-5 : tie.Need-keys-again-5 Inv-loop μ-loop Inv-loop2 μ-loop2 Inv-keys μ-keys
 unfolding entryOf
 keys-again-5 c =
-    let a = c .before .before .before .before .before .before .before .before .before .before .before .before .before .before .before .before .before .before .before .before .before .before .before .before .before .before .before .before .args in
+    let a = c .before .before .before .before .before .before .before .before .before .before .before .before .before .before .before .before .before .before .before .before .before .before .before .before .before .before .before .args in
     let near =
-    c .before .near-by .ensures _ _ (coefs-part (a .size) (now (c .before .before .before .before .before .before .before .before .before .before .before .before .before .before .before .before .before .before .entry-at .result))) (coefs-is (a .size) (a .m) (now (c .before .before .before .before .before .before .before .before .before .before .before .before .before .before .before .before .before .before .before .before .before .before .before .entry .result)) (c .before .before .before .before .before .before .before .before .before .before .before .before .before .before .before .before .before .before .before .before .before .before .before .entry .ensures .1) ∙ coefs-part (a .size) (now (c .before .before .before .before .before .before .before .before .before .before .before .before .before .before .before .before .before .before .before .before .before .before .before .entry .result))) (count-is (a .size) (a .m) (now (c .before .before .before .before .before .before .before .before .before .before .before .before .before .before .before .before .before .before .before .before .before .before .before .entry .result)) (c .before .before .before .before .before .before .before .before .before .before .before .before .before .before .before .before .before .before .before .before .before .before .before .entry .ensures .1) ∙ sym (c .before .before .before .before .before .before .before .before .before .before .before .if4 .left)) in
-    passed (c .before .before .before .before .before .before .before .before .before .before .before .before .before .before .before .before .before .before) (unlike-value (a .size) (a .threshold) (bodyOf (a .size) (now (c .before .before .before .before .before .before .before .before .before .before .before .before .before .before .before .before .before .before .entry-at .result))) (changed (a .size) (a .m) (now (c .before .before .before .before .before .before .before .before .before .before .before .before .before .before .before .before .before .before .before .before .before .before .before .entry .result))) (c .before .before .before .loop2 .c) (c .before .before .loop2-test .taken) (sym near ∙ c .if6 .left))
+    c .before .near-by .ensures _ _ (coefs-part (a .size) (now (c .before .before .before .before .before .before .before .before .before .before .before .before .before .before .before .before .before .entry-at .result))) (coefs-is (a .size) (a .m) (now (c .before .before .before .before .before .before .before .before .before .before .before .before .before .before .before .before .before .before .before .before .before .before .entry .result)) (c .before .before .before .before .before .before .before .before .before .before .before .before .before .before .before .before .before .before .before .before .before .before .entry .ensures .1) ∙ coefs-part (a .size) (now (c .before .before .before .before .before .before .before .before .before .before .before .before .before .before .before .before .before .before .before .before .before .before .entry .result))) (count-is (a .size) (a .m) (now (c .before .before .before .before .before .before .before .before .before .before .before .before .before .before .before .before .before .before .before .before .before .before .entry .result)) (c .before .before .before .before .before .before .before .before .before .before .before .before .before .before .before .before .before .before .before .before .before .before .entry .ensures .1) ∙ sym (c .before .before .before .before .before .before .before .before .before .before .if4 .left)) in
+    passed (c .before .before .before .before .before .before .before .before .before .before .before .before .before .before .before .before .before) (unlike-value (a .size) (a .threshold) (bodyOf (a .size) (now (c .before .before .before .before .before .before .before .before .before .before .before .before .before .before .before .before .before .entry-at .result))) (changed (a .size) (a .m) (now (c .before .before .before .before .before .before .before .before .before .before .before .before .before .before .before .before .before .before .before .before .before .before .entry .result))) (c .before .before .before .loop2 .c) (c .before .before .loop2-test .taken) (sym near ∙ c .if6 .left))
 
 returns : tie.Need-returns Inv-loop μ-loop Inv-loop2 μ-loop2 Inv-keys μ-keys
 returns c =
@@ -328,17 +349,17 @@ returns c =
 returns-2 : tie.Need-returns-2 Inv-loop μ-loop Inv-loop2 μ-loop2 Inv-keys μ-keys
 unfolding entryOf changedKeyed changedEntry
 returns-2 c =
-    let a = c .before .before .before .before .before .before .before .before .before .before .before .before .before .before .before .before .before .before .before .before .before .before .before .before .before .before .args in
-    let w = c .before .before .before .before .before .before .before .before .before .before .before .before .before .before .before .before .before .before .before .before .keys in
-    let p = now (c .before .before .before .before .before .before .before .before .before .before .before .before .before .before .before .before .before .before .before .before .before .entry .result) in
-    let same = c .before .before .before .before .before .before .before .before .before .if4 .left in
-    let count = count-is (a .size) (a .m) p (c .before .before .before .before .before .before .before .before .before .before .before .before .before .before .before .before .before .before .before .before .before .entry .ensures .1) in
-    let near = c .before .loop2 .inv .1 _ _ (coefs-part (a .size) (now (c .before .before .before .before .before .before .before .before .before .before .before .before .before .before .before .before .entry-at .result))) (coefs-is (a .size) (a .m) (now (c .before .before .before .before .before .before .before .before .before .before .before .before .before .before .before .before .before .before .before .before .before .entry .result)) (c .before .before .before .before .before .before .before .before .before .before .before .before .before .before .before .before .before .before .before .before .before .entry .ensures .1) ∙ coefs-part (a .size) (now (c .before .before .before .before .before .before .before .before .before .before .before .before .before .before .before .before .before .before .before .before .before .entry .result))) (count ∙ sym same) in
-    let loss = c .before .before .before .before .before .before .before .before .before .before .before .before .if3 .left ∙ c .before .before .before .before .before .before .before .before .before .before .before .before .before .loss-after .ensures ∙ sym (loss-is (a .size) (a .m) p (c .before .before .before .before .before .before .before .before .before .before .before .before .before .before .before .before .before .before .before .before .before .entry .ensures .1)) in
+    let a = c .before .before .before .before .before .before .before .before .before .before .before .before .before .before .before .before .before .before .before .before .before .before .before .before .before .args in
+    let w = c .before .before .before .before .before .before .before .before .before .before .before .before .before .before .before .before .before .before .before .keys in
+    let p = now (c .before .before .before .before .before .before .before .before .before .before .before .before .before .before .before .before .before .before .before .before .entry .result) in
+    let same = c .before .before .before .before .before .before .before .before .if4 .left in
+    let count = count-is (a .size) (a .m) p (c .before .before .before .before .before .before .before .before .before .before .before .before .before .before .before .before .before .before .before .before .entry .ensures .1) in
+    let near = c .before .loop2 .inv .1 _ _ (coefs-part (a .size) (now (c .before .before .before .before .before .before .before .before .before .before .before .before .before .before .before .entry-at .result))) (coefs-is (a .size) (a .m) (now (c .before .before .before .before .before .before .before .before .before .before .before .before .before .before .before .before .before .before .before .before .entry .result)) (c .before .before .before .before .before .before .before .before .before .before .before .before .before .before .before .before .before .before .before .before .entry .ensures .1) ∙ coefs-part (a .size) (now (c .before .before .before .before .before .before .before .before .before .before .before .before .before .before .before .before .before .before .before .before .entry .result))) (count ∙ sym same) in
+    let loss = c .before .before .before .before .before .before .before .before .before .before .before .if3 .left ∙ c .before .before .before .before .before .before .before .before .before .before .before .before .loss-after .ensures ∙ sym (loss-is (a .size) (a .m) p (c .before .before .before .before .before .before .before .before .before .before .before .before .before .before .before .before .before .before .before .before .entry .ensures .1)) in
     let rows = c .before .before .before .before .before .before .before .loop in
-    rw (c .before .before .before .before .before .before .before .before .before .before .before .before .before .before .before .before .before .before .before .before .before .entry .ensures .0) at
-    (hit _ _ _ _ (w .compared) (w .i) (w .inv) (listed-below (a .size) (a .threshold) (branch (a .size) (a .m) p) (a .count) (seenAt (a .size) (now (a .places)) (now (a .store))) (w .i) (c .before .before .before .before .before .before .before .before .before .before .before .before .before .before .before .before .before .before .before .if1 .left)) _ (its-entry (c .before .before .before .before .before .before .before .before .before .before .before .before .before .before .before .before)) (same-key (c .before .before .before .before .before .before .before .before .before .before .before .before .before .before .before .before))
-    (alike-all (a .size) (a .threshold) (bodyOf (a .size) (now (c .before .before .before .before .before .before .before .before .before .before .before .before .before .before .before .before .entry-at .result))) (changed (a .size) (a .m) p) loss (same ∙ sym count) (3 * rows .r) (c .before .loop2 .c) (omega (arith, c .before .before .before .before .before .before .loop-test .left)) (omega (arith, c .loop2-test .left)) (rows .inv .1) near))
+    rw (c .before .before .before .before .before .before .before .before .before .before .before .before .before .before .before .before .before .before .before .before .entry .ensures .0) at
+    (hit _ _ _ _ (w .compared) (w .i) (w .inv) (listed-below (a .size) (a .threshold) (branch (a .size) (a .m) p) (a .count) (seenAt (a .size) (now (a .places)) (now (a .store))) (w .i) (c .before .before .before .before .before .before .before .before .before .before .before .before .before .before .before .before .before .before .if1 .left)) _ (its-entry (c .before .before .before .before .before .before .before .before .before .before .before .before .before .before .before)) (same-key (c .before .before .before .before .before .before .before .before .before .before .before .before .before .before .before))
+    (alike-all (a .size) (a .threshold) (bodyOf (a .size) (now (c .before .before .before .before .before .before .before .before .before .before .before .before .before .before .before .entry-at .result))) (changed (a .size) (a .m) p) loss (same ∙ sym count) (3 * rows .r) (c .before .loop2 .c) (omega (arith, c .before .before .before .before .before .before .loop-test .left)) (omega (arith, c .loop2-test .left)) (rows .inv .2) near))
 
 pub walk-from-spec : {M : Type 1} → statement M
 walk-from-spec =
@@ -371,10 +392,10 @@ walk-from-spec =
     shared-slice-read-if4-2
     keys-less-3
     keys-again-3
-    flip-of-requires
     loop-holds
     sub-few-of
     few-of-requires
+    flips-from-requires
     mul-at
     add-at
     mul-end
