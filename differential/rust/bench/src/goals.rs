@@ -1,4 +1,4 @@
-//! Each kind of row beside its goal, and the check of the whole store beside the speed of a plain loop.
+//! Each kind of row beside its goal, what bounds a reset, and the check of the whole store beside the speed of a plain loop.
 
 use crate::Measured;
 use std::hint::black_box;
@@ -86,9 +86,30 @@ fn check(all: &[Measured]) {
     }
 }
 
+/// What bounds a reset: its check, and the words that it moves and clears, where the Rust moves pointers.
+fn reset(rows: &[&Measured]) {
+    println!(
+        "\nReset, half lost, just enough capacity: ours, its check, a plain loop that moves and clears as many words, the Rust's (microseconds, medians)"
+    );
+    for m in rows {
+        if let (Some(moved), Some(theirs)) = (m.moved, m.theirs) {
+            let us = |t: crate::Time| t.median / 1000.0;
+            let Measured { n, k, entries, .. } = m;
+            println!(
+                "n {n:>2}, K {k:>2}, {entries:>3} entries: {:>7.2} {:>7.2} {:>7.2} {:>7.2}",
+                us(m.ours),
+                us(m.check),
+                us(moved),
+                us(theirs)
+            );
+        }
+    }
+}
+
 pub fn print(all: &[Measured]) {
     by_kind("Just enough capacity", &just(all));
     let large: Vec<&Measured> = all.iter().filter(|m| m.capacity == 256).collect();
     by_kind("Capacity 256", &large);
+    reset(&just(all));
     check(all);
 }

@@ -1,11 +1,12 @@
 //! Times of our calls and of the published Rust's, side by side in one process, on the same sums.
 //!
-//!     bench [MILLISECONDS [NAME]]     for each side of a row, in each of three turns (3, if none is given); only rows with NAME in theirs
+//!     bench [MILLISECONDS [NAME]]     for each side of a row, in all (9, if none is given); only rows with NAME in theirs
 //!
 //! Before each run the sum is copied anew, untimed, so it is in the cache as far as it fits; nothing else is cleared. A row's two sides
-//! take turns. What a call gives is used, so that nothing is optimised away. The Rust has a quick hash in place of document 01's word key.
-//! Beside each row stands what our check of the whole store takes, which the Rust does not make: a truncate of the same sum from which
-//! nothing goes. At the end each kind of row is held to its goal, and the check to the speed at which a plain loop reads the same words.
+//! take turns, thirty each, so that both have the processor at its fast and slow times. What a call gives is used, so that nothing is optimised away. The
+//! Rust has a quick hash in place of document 01's word key. Beside each row stands what our check of the whole store takes, which the
+//! Rust does not make: a truncate of the same sum from which nothing goes. At the end each kind of row is held to its goal, and the check
+//! to the speed at which a plain loop reads the same words.
 
 mod goals;
 mod sums;
@@ -17,6 +18,9 @@ use std::hint::black_box;
 use std::time::Duration;
 use sums::{Kin, sum};
 use timing::{Runs, Time};
+
+/// The turns that each side of a row takes.
+const TURNS: u32 = 30;
 
 /// What is timed: one call, or what the Rust has no single call for.
 #[derive(Clone, Copy)]
@@ -45,6 +49,8 @@ struct Measured {
     /// The check alone, and a plain loop over the same words.
     check: Time,
     read: Time,
+    /// For a reset: a plain loop that moves and clears as many words.
+    moved: Option<Time>,
     /// Of the store.
     words: usize,
     /// Of the sheet.
@@ -131,10 +137,14 @@ fn measure(row: &Row, capacity: usize, span: Duration) -> Measured {
     let bytes = start.write_sheet(&mut text).length;
     let sheet = text[..bytes].to_vec();
     let (mut ours, mut theirs, mut check, mut read) = (Runs::new(), Runs::new(), Runs::new(), Runs::new());
+    let mut moved = row.name.starts_with("reset").then(Runs::new);
     let kept = Ours { header: ours::Header { cutoff: 0.0, ..start.header }, ..start.clone() };
-    for _ in 0..3 {
+    for _ in 0..TURNS {
         check.add(span, || kept.clone(), |o| o.call(Call::Truncate));
         read.add(span, || kept.store.clone(), |w| w.iter().fold(0, |any, w| any | w));
+        if let Some(moved) = &mut moved {
+            moved.add(span, || kept.store.clone(), |w| close_up(w, entry_len(row.sum.n, row.sum.k), entries(&row.sum)));
+        }
         match row.timed {
             Timed::Call(call) => {
                 ours.add(span, || start.clone(), |o| o.call(call));
@@ -157,7 +167,17 @@ fn measure(row: &Row, capacity: usize, span: Duration) -> Measured {
     let (n, k, entries) = (row.sum.n, row.sum.k, entries(&row.sum));
     let theirs = compared.then(|| theirs.time());
     let (ours, check, read, words) = (ours.time(), check.time(), read.time(), start.store.len());
-    Measured { name: row.name, n, k, entries, capacity, ours, theirs, check, read, words, bytes }
+    let moved = moved.map(|mut m| m.time());
+    Measured { name: row.name, n, k, entries, capacity, ours, theirs, check, read, moved, words, bytes }
+}
+
+/// What becomes of the words when every second entry leaves: the others move up, and the places behind them are cleared.
+fn close_up(words: &mut [u64], len: usize, entries: usize) {
+    let left = entries.div_ceil(2);
+    for i in 1..left {
+        words.copy_within(2 * i * len..(2 * i + 1) * len, i * len);
+    }
+    words[left * len..entries * len].fill(0);
 }
 
 /// Both sides accept the call and hold as many entries after it.
@@ -202,9 +222,9 @@ fn growth(all: &[Measured], title: &str, of: impl Fn(&Measured) -> Option<usize>
 }
 
 fn main() {
-    let milliseconds = std::env::args().nth(1).map_or(3, |a| a.parse().expect("milliseconds"));
+    let milliseconds = std::env::args().nth(1).map_or(9, |a| a.parse().expect("milliseconds"));
     let name = std::env::args().nth(2).unwrap_or_default();
-    let span = Duration::from_millis(milliseconds);
+    let span = Duration::from_millis(milliseconds) / TURNS;
     println!(
         "Before each run the sum is copied anew, untimed; nothing else is cleared. What a call gives is used. At least 30 runs a side."
     );

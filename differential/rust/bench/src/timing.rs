@@ -10,7 +10,8 @@ pub struct Time {
     pub median: f64,
 }
 
-/// At least 30 runs, and more for as long as `span`. The copy is made just before each run, and is not timed; what the run gives is used.
+/// One turn after the other: at least one run in each, and more for as long as `span`. The copy is made just before each run, and is not
+/// timed; what the run gives is used.
 pub struct Runs(Vec<u64>);
 
 impl Runs {
@@ -20,14 +21,15 @@ impl Runs {
 
     pub fn add<T, R>(&mut self, span: Duration, mut copy: impl FnMut() -> T, mut run: impl FnMut(&mut T) -> R) {
         let begun = Instant::now();
-        let mut runs = 0;
-        while runs < 10 || begun.elapsed() < span {
+        loop {
             let mut start = black_box(copy());
             let t = Instant::now();
             let given = black_box(run(&mut start));
             self.0.push(t.elapsed().as_nanos() as u64);
             black_box((&start, given));
-            runs += 1;
+            if span <= begun.elapsed() {
+                return;
+            }
         }
     }
 
