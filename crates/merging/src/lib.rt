@@ -101,7 +101,7 @@ pub fn append_changed(
     seeking::note(keys, firsts, count, key);
 }
 
-// Its search among the entries listed. Most end with a look at the table, before it is worked out what the branch changes.
+// Its search among the entries listed. Most end with a look at the table, before its mutation is worked out.
 fn seek_arm(
     store: &[u64],
     keys: &[u64; 256],

@@ -123,8 +123,8 @@ fn flips_from(c: Change, r: usize) -> u64
 
 // The walk from place `first` on, where no entry before that has the key: the first of the `count` entries that has it and is alike
 // with the changed entry at place `origin` of the store: equal loss (word 1), coefficient count (word 4) and rows, with the phases that
-// the change leaves, and each of its coefficients near. Only an entry with the key is compared in full, and its first difference ends
-// the comparison.
+// the change leaves, and each of its coefficients near. Only an entry with the key is compared in full, and the first part of it that
+// differs ends the comparison.
 fn walk_from(
     store: &[u64],
     places: &[usize],

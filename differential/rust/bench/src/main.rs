@@ -3,10 +3,10 @@
 //!     bench [MILLISECONDS [NAME]]     for each side of a row, in all (9, if none is given); only rows with NAME in theirs
 //!
 //! Before each run the sum is copied anew, untimed, so it is in the cache as far as it fits; nothing else is cleared. A row's two sides
-//! take turns, thirty each, so that both have the processor at its fast and slow times. What a call gives is used, so that nothing is optimised away. The
-//! Rust has a quick hash in place of document 01's word key. Beside each row stands what our check of the whole store takes, which the
-//! Rust does not make: a truncate of the same sum from which nothing goes. At the end each kind of row is held to its goal, and the check
-//! to the speed at which a plain loop reads the same words.
+//! take turns, thirty each, so that both have the processor at its fast and slow times. What a call gives is used, so that nothing is
+//! optimised away. The Rust has a quick hash in place of document 01's word key. Beside each row stands what our check of the whole store
+//! takes, which the Rust does not make: a truncate of the same sum from which nothing goes. At the end each kind of row is held to its
+//! goal, and the check to the speed at which a plain loop reads the same words.
 
 mod goals;
 mod sums;
