@@ -1,4 +1,4 @@
-"""What run_circuit prints for the circuits of examples/, by a parser of its own over the calls of second.py.
+"""What run_circuit does with a circuit, by a parser of its own over the calls of second.py.
 
     circuits.py                                    examples/expected/ agrees with it
     circuits.py sheet|table|trace|summary FILE     prints one, with the options that the file names
@@ -7,57 +7,227 @@ A comment in an example names the options that it is run with. Of a table, a tra
 digits: run_circuit works its digits out in floats.
 """
 
+import math
 import pathlib
+import re
 import sys
+from collections import namedtuple
 
 import second
 
 EXAMPLES = pathlib.Path(__file__).resolve().parent.parent / "examples"
-PAIRED = {"CX", "CNOT", "PAULI_CHANNEL_2", "DEPOLARIZE2"}
 
 
-# ---- circuits
+# ---- the language
+
+# How many arguments an instruction takes, and how many targets each of its calls.
+TAKES = {
+    **dict.fromkeys(["H", "S"], (0, 1)),
+    **dict.fromkeys(["CX", "CNOT"], (0, 2)),
+    **dict.fromkeys(["X_ERROR", "Y_ERROR", "Z_ERROR", "DEPOLARIZE1", "I_ERROR"], (1, 1)),
+    "PAULI_CHANNEL_1": (3, 1),
+    "PAULI_CHANNEL_2": (15, 2),
+    "DEPOLARIZE2": (1, 2),
+    "I": (0, 1),
+    "TICK": (0, 0),
+}
+# What is taken with one tag only; other tags have no effect.
+TAGS = {"I_ERROR": b"[loss]", "I": b"[reset_loss]"}
+
+MARK = b"\xef\xbb\xbf"
+BLANKS = b" \t\r"
+LONGEST_LINE = 65535
+MOST_DIGITS = 19
+DEEPEST = 64
+
+# Name, tag, arguments; then a blank, a comment or the end; what stands before the comment.
+INSTRUCTION = re.compile(rb"(\w+)(\[[^]]*\])?(\([^)#]*\))?(?![^ \t\r#])([^#]*)")
+# How often, `{`, and what follows it.
+REPEAT = re.compile(rb"[ \t\r]*(\d*)[ \t\r]*(.?)[ \t\r]*(.?)", re.DOTALL)
+DECIMAL = re.compile(rb"[+-]?(\d*)\.?(\d*)(?:[eE][+-]?\d+)?")
+
+# An instruction: its line, its name, that name as it is written, its rates, the qubits of each call.
+Instruction = namedtuple("Instruction", "line name written rates calls")
+# A block: the line of its REPEAT, how often, what is in it.
+Block = namedtuple("Block", "line times items")
+CLOSE = "}"
 
 
-def options_of(text):
-    line = next((line for line in text.splitlines() if line.startswith("# options:")), "")
-    words = line.split()[2:]
-    return {name.lstrip("-"): value for name, value in zip(words[::2], words[1::2])}
+class Bad(Exception):
+    """A bad line. If it has a block it still begins that, and with CLOSE it ends one."""
+
+    def __init__(self, item=None):
+        self.item = item
 
 
-def instruction(line):
-    """Name with its tag, arguments, targets."""
-    head, _, rest = line.partition(")") if "(" in line else (line.split()[0], "", " ".join(line.split()[1:]))
-    name, _, arguments = head.partition("(")
-    return name.upper() if "[" not in name else name, [float(a) for a in arguments.split(",") if a.strip()], [int(t) for t in rest.split()]
+# ---- one line
 
 
-def block(lines, at):
-    """The numbered instructions of a block, repetitions written out, and where the block ends."""
-    made = []
-    while at < len(lines):
-        line = lines[at].partition("#")[0].strip()
-        at += 1
-        if line == "}":
-            return made, at
-        if line.upper().startswith("REPEAT"):
-            times = int(line.split()[1])
-            body, at = block(lines, at)
-            made += body * times
-        elif line and line.upper() != "TICK":
-            made.append((at, *instruction(line)))
-    return made, at
+def decimal(word):
+    parts = DECIMAL.fullmatch(word)
+    digits = parts and parts[1] + parts[2]
+    if not digits or len(digits.lstrip(b"0")) > MOST_DIGITS or math.isinf(float(word)):
+        raise Bad
+    return float(word)
 
 
-def calls(text):
-    """Each call: its line, instruction, arguments and qubits."""
-    for number, name, arguments, targets in block(text.splitlines(), 0)[0]:
-        each = 2 if name in PAIRED else 1
-        for i in range(0, len(targets), each):
-            yield number, name, arguments, targets[i : i + each]
+def whole(word, limit):
+    """The number that digits write, if it is below the limit; else None."""
+    if not word.isdigit() or len(word.lstrip(b"0")) > 20:
+        return None
+    value = int(word.lstrip(b"0") or b"0")
+    return value if value < limit else None
+
+
+def rates_sound(name, rates):
+    """Number 4 is not given for them."""
+    parts = {"DEPOLARIZE1": 3, "DEPOLARIZE2": 15}.get(name)
+    arms = [rates[0] / parts] * parts if parts else rates
+    return all(0 <= rate <= 1 for rate in rates) and not second.folded(arms) > 1
+
+
+def rates_of(name, arguments):
+    words = arguments[1:-1].split(b",") if arguments else []
+    rates = [decimal(word.strip(BLANKS)) for word in words]
+    if len(rates) != TAKES[name][0] or not rates_sound(name, rates):
+        raise Bad
+    return rates
+
+
+def calls_on(name, targets, limit):
+    """The qubits of each call."""
+    each = TAKES[name][1]
+    qubits = [whole(word, limit) for word in re.findall(rb"[^ \t\r]+", targets)]
+    if None in qubits or (len(qubits) % each if each else qubits):
+        raise Bad
+    calls = [tuple(qubits[i : i + each]) for i in range(0, len(qubits), each or 1)]
+    if any(len(set(call)) < each for call in calls):
+        raise Bad
+    return calls
+
+
+def block(number, text):
+    digits, bracket, rest = REPEAT.match(text).groups()
+    times = whole(digits, 1 << 64)
+    opened = Block(number, times, [])
+    if not times:
+        raise Bad(opened)
+    if bracket != b"{":
+        raise Bad
+    if rest:
+        raise Bad(opened)
+    return opened
+
+
+def parsed(number, line, limit):
+    """An instruction, a block that begins, CLOSE, or None."""
+    line = line.lstrip(BLANKS)
+    if not line or line.startswith(b"#"):
+        return None
+    if line.startswith(b"}"):
+        if line[1:].partition(b"#")[0].strip(BLANKS):
+            raise Bad(CLOSE)
+        return CLOSE
+    parts = INSTRUCTION.match(line)
+    if not parts:
+        raise Bad
+    written, tag, arguments, rest = parts.groups()
+    name = written.decode().upper()
+    if name == "REPEAT" and not arguments:
+        return block(number, rest)
+    if name not in TAKES or tag != TAGS.get(name, tag):
+        raise Bad
+    return Instruction(number, name, written.decode(), rates_of(name, arguments), calls_on(name, rest, limit))
+
+
+# ---- all lines
+
+# The lines that are told as bad, in that order; the items; how many qubits the targets need.
+Looked = namedtuple("Looked", "bad items qubits")
+
+
+def lines_of(data):
+    """A byte order mark at the start counts as part of its line, but is passed over."""
+    lines = data.split(b"\n")
+    if not lines[-1]:
+        lines.pop()
+    for at, line in enumerate(lines):
+        if len(line) > LONGEST_LINE:
+            yield None
+            return
+        yield line if at else line.removeprefix(MARK)
+
+
+class Look:
+    """Items are laid into the innermost block that is open; the first stands for the circuit."""
+
+    def __init__(self):
+        self.bad, self.blocks, self.qubits = [], [Block(0, 1, [])], 0
+
+    def take(self, number, line, limit):
+        try:
+            item, sound = parsed(number, line, limit), True
+        except Bad as bad:
+            item, sound = bad.item, False
+        if not self.lay(item) or not sound:
+            self.bad.append(number)
+
+    def lay(self, item):
+        """Whether a block may begin or end here, if one does."""
+        blocks = self.blocks
+        if item == CLOSE:
+            return len(blocks) > 1 and bool(blocks.pop())
+        if item:
+            blocks[-1].items.append(item)
+        if isinstance(item, Block):
+            blocks.append(item)
+            return len(blocks) <= DEEPEST + 1
+        if item:
+            self.qubits = max([self.qubits, *(q + 1 for call in item.calls for q in call)])
+        return True
+
+
+def look(data, limit=64):
+    """The whole circuit. A line that is too long ends it; a block that is never closed is told last, the innermost of the first 64."""
+    looked = Look()
+    for number, line in enumerate(lines_of(data), 1):
+        if line is None:
+            return Looked([*looked.bad, number], [], 0)
+        looked.take(number, line, limit)
+    unclosed = looked.blocks[1 : DEEPEST + 1]
+    return Looked(looked.bad + [b.line for b in unclosed[-1:]], looked.blocks[0].items, looked.qubits)
+
+
+def any_call(items):
+    return any(any_call(item.items) if isinstance(item, Block) else item.calls for item in items)
+
+
+def calls(items):
+    """Each call: its instruction and qubits. A block without calls is passed over."""
+    for item in items:
+        if isinstance(item, Instruction):
+            yield from ((item, qubits) for qubits in item.calls)
+        elif any_call(item.items):
+            for _ in range(item.times):
+                yield from calls(item.items)
 
 
 # ---- calls
+
+
+def options_of(data):
+    """The options that a comment names, each with its value."""
+    words = b"".join(re.findall(rb"^# options:(.*)", data, re.MULTILINE)).decode().split()
+    return {name.lstrip("-"): value for name, value in zip(words[::2], words[1::2])}
+
+
+def begun(options, needed):
+    """The header and words of the fresh sum."""
+    n, capacity = int(options.get("qubits", needed)), int(options.get("capacity", 256))
+    threshold, cutoff = float(options.get("threshold", 1e-8)), float(options.get("cutoff", 0))
+    number, header, _, words = second.fresh(n, 1, capacity, threshold, cutoff, [0] * (capacity * second.entry_length(n, 1)))
+    assert number == 0
+    return header, words
 
 
 def made(header, words, name, p, qubits):
@@ -69,9 +239,9 @@ def made(header, words, name, p, qubits):
         return second.pauli(header, words, *paulis[name], *qubits)
     if name == "PAULI_CHANNEL_2":
         return second.two_qubit_pauli_error(header, words, p, *qubits)
-    if name == "I[reset_loss]":
+    if name == "I":
         return second.reset_loss_channel(header, words, *qubits)
-    channels = {"I_ERROR[loss]": second.loss, "DEPOLARIZE1": second.depolarizing, "DEPOLARIZE2": second.depolarize2}
+    channels = {"I_ERROR": second.loss, "DEPOLARIZE1": second.depolarizing, "DEPOLARIZE2": second.depolarize2}
     return channels[name](header, words, *p, *qubits)
 
 
@@ -100,23 +270,21 @@ class Watched:
 WATCHED = Watched()
 
 
-def run(text):
+def run(data):
     """The header and words at the end, what a trace shows for each call, and what was lost of the initial weight."""
-    options = options_of(text)
-    listed = list(calls(text))
-    n = int(options.get("qubits", 1 + max((q for *_, qubits in listed for q in qubits), default=0)))
-    capacity = int(options.get("capacity", 256))
-    threshold, cutoff = float(options.get("threshold", 1e-8)), float(options.get("cutoff", 0))
-    words = [0] * (capacity * second.entry_length(n, 1))
-    number, header, _, words = second.fresh(n, 1, capacity, threshold, cutoff, words)
-    assert number == 0
+    options = options_of(data)
+    looked = look(data, int(options.get("qubits", 64)))
+    assert not looked.bad, looked.bad
+    header, words = begun(options, looked.qubits)
     shown, kept = [], 1.0
-    for line, name, p, qubits in listed:
+    for instruction, qubits in calls(looked.items):
         before = second.total_weight(second.entries_of(header, words))
         WATCHED.begin(before)
-        number, header, counts, words = made(header, words, name, p, qubits)
+        number, header, counts, words = made(header, words, instruction.name, instruction.rates, qubits)
         kept *= (1 - WATCHED.dropped / before) * (1 - WATCHED.cut / (1.0 if counts.dropped else before))
-        shown.append([line, name, ",".join(map(str, qubits)), number, *counts, header.count, WATCHED.dropped, WATCHED.cut])
+        name = instruction.written + TAGS.get(instruction.name, b"").decode()
+        on = ",".join(map(str, qubits))
+        shown.append([instruction.line, name, on, number, *counts, header.count, WATCHED.dropped, WATCHED.cut])
         assert number == 0, shown[-1]
     return header, words, shown, 1 - kept
 
@@ -172,16 +340,18 @@ def agrees(name, kind, given, wanted):
 KINDS = {"sheet": sheet, "table": table, "trace": trace, "summary": summary}
 
 
-def main():
-    for circuit in sorted(EXAMPLES.glob("*.stim")):
-        ran = run(circuit.read_text())
+def main(words):
+    if len(words) == 2 and words[0] in KINDS:
+        given = KINDS[words[0]](*run(pathlib.Path(words[1]).read_bytes()))
+        print(given if isinstance(given, str) else "\n".join(" ".join(map(str, row)) for row in given), end="")
+    elif words:
+        print(__doc__, file=sys.stderr)
+        sys.exit(2)
+    for circuit in sorted(EXAMPLES.glob("*.stim")) if not words else []:
+        ran = run(circuit.read_bytes())
         for kind, give in KINDS.items():
             agrees(circuit.stem, kind, (EXAMPLES / "expected" / f"{circuit.stem}.{kind}").read_text(), give(*ran))
 
 
 if __name__ == "__main__":
-    if len(sys.argv) == 3:
-        given = KINDS[sys.argv[1]](*run(pathlib.Path(sys.argv[2]).read_text()))
-        print(given if isinstance(given, str) else "\n".join(" ".join(map(str, row)) for row in given), end="")
-    else:
-        main()
+    main(sys.argv[1:])

@@ -567,6 +567,9 @@ def read_sheet(text, words):
     return Answer(0, header, NO_COUNTS, laid + [0] * (len(words) - len(laid)))
 
 
+PROGRAMS = ("masks_run", "replay", "list_run", "planner", "every_call")
+
+
 def main(name, given_to=None):
     cases = importlib.import_module(name)
     cases.main()
@@ -577,4 +580,7 @@ def main(name, given_to=None):
 
 if __name__ == "__main__":
     sys.dont_write_bytecode = True
+    if len(sys.argv) not in (2, 3) or sys.argv[1] not in PROGRAMS:
+        print(__doc__, file=sys.stderr)
+        sys.exit(2)
     main(*sys.argv[1:])

@@ -2,8 +2,7 @@
  * tableau_sum.h: weighted sums of stabilizer tableaux under Pauli and loss noise.
  *
  * For C99 and later and for C++. Link with libtableau_sum.a, which `rt staticlib tableau_sum` writes to target/staticlib, on x86-64
- * Linux. The library needs memcpy, memmove and memset and nothing else: it has no heap and no state of its own. Calls on the largest size
- * were measured to take less than 16 KiB of stack.
+ * Linux. The library needs memcpy, memmove and memset and nothing else: it has no heap and no state of its own.
  *
  * HOW A SUM IS KEPT. The caller lends a store of 64-bit words, tableau_sum_store_words(size) of them, and keeps a header that
  * describes it. Each call takes both and gives an answer: a number, 0 if the call was done, and the header as it is now, which belongs
@@ -60,6 +59,12 @@ extern "C" {
 
 /* the rates of tableau_sum_two_qubit_pauli_error */
 #define TABLEAU_SUM_PAIRS 15
+
+/*
+ * Every call takes less stack than this. Measured by examples/c/stack.c, as gcc builds it: at most 28,808 bytes, by a channel on a dirty
+ * sum. (31,976 where the dynamic linker has to find memcpy in the middle of that call.)
+ */
+#define TABLEAU_SUM_STACK_BYTES 32768
 
 /* ---- the numbers a call gives: the lowest that applies, but the reader tests TABLEAU_SUM_BAD_SHEET first */
 
@@ -282,7 +287,9 @@ TABLEAU_SUM_CALL tableau_sum_answer tableau_sum_write_sheet(tableau_sum_header h
 TABLEAU_SUM_CALL tableau_sum_answer tableau_sum_view(tableau_sum_header h, const uint64_t *store, size_t store_len, size_t place);
 
 /*
- * Word i of that view. It gives no number: past the view's end, and where the view is refused, the word is 0.
+ * Word i of that view. It gives no number: past the view's end, and where the view is refused, the word is 0. Each call checks the whole
+ * sum again, so whoever reads many words reads them in the store: they stand from store[place * tableau_sum_entry_words(size)] on, as
+ * many as these.
  */
 TABLEAU_SUM_CALL uint64_t tableau_sum_view_word(tableau_sum_header h, const uint64_t *store, size_t store_len, size_t place, size_t i);
 

@@ -151,11 +151,61 @@ static void last_refusals(void)
     refused("pick", tableau_sum_pick(header, store, WORDS, 0));
 }
 
+/* ---- the bits of a NaN. The proofs know one NaN only, so that a refused call hands its bits back as they were given is tested */
+
+/* Every call that takes a header gives this number, and the bounds bit for bit. */
+static bool bounds_kept(tableau_sum_header h, uint64_t number)
+{
+    static const double rates[TABLEAU_SUM_PAIRS];
+    const tableau_sum_answer answers[] = {
+        tableau_sum_pauli_error(h, store, WORDS, 0, 0, 0, 0),
+        tableau_sum_loss_channel(h, store, WORDS, 0, 0),
+        tableau_sum_depolarize1(h, store, WORDS, 0, 0),
+        tableau_sum_two_qubit_pauli_error(h, store, WORDS, 0, 1, rates),
+        tableau_sum_depolarize2(h, store, WORDS, 0, 1, 0),
+        tableau_sum_reset_loss_channel(h, store, WORDS, 0),
+        tableau_sum_h(h, store, WORDS, 0),
+        tableau_sum_s(h, store, WORDS, 0),
+        tableau_sum_cnot(h, store, WORDS, 0, 1),
+        tableau_sum_truncate(h, store, WORDS),
+        tableau_sum_normalise(h, store, WORDS),
+        tableau_sum_table(h, store, WORDS, table, 2 * CAPACITY),
+        tableau_sum_pick(h, store, WORDS, 0),
+        tableau_sum_write_sheet(h, store, WORDS, text, sizeof text),
+        tableau_sum_view(h, store, WORDS, 0),
+    };
+    for (size_t i = 0; i < sizeof answers / sizeof answers[0]; i++) {
+        const tableau_sum_header given = answers[i].header;
+        if (answers[i].number != number || memcmp(&given.threshold, &h.threshold, sizeof h.threshold) != 0 ||
+            memcmp(&given.cutoff, &h.cutoff, sizeof h.cutoff) != 0)
+            return false;
+    }
+    return true;
+}
+
+static bool nans_kept(void)
+{
+    /* quiet; with a sign and a payload; signalling; no NaN */
+    static const uint64_t bits[] = {0x7ff8000000000000, 0xfff80000deadbeef, 0x7ff0000000000001, 0};
+    bool kept = true;
+    for (int i = 0; i < 15; i++) {
+        tableau_sum_header h = header;
+        h.threshold = tableau_sum_float(bits[i / 4]);
+        h.cutoff = tableau_sum_float(bits[i % 4]);
+        kept = kept && bounds_kept(h, TABLEAU_SUM_BAD_HEADER);
+        h.size.n = TABLEAU_SUM_MAX_QUBITS + 1;
+        kept = kept && bounds_kept(h, TABLEAU_SUM_BAD_SIZE);
+    }
+    if (!kept)
+        fputs("a refused call hands a NaN back with other bits\n", stderr);
+    return kept;
+}
+
 int main(void)
 {
     channels();
     looks();
     refusals(sheet());
     last_refusals();
-    return fflush(stdout) == 0 ? EXIT_SUCCESS : EXIT_FAILURE;
+    return nans_kept() && fflush(stdout) == 0 ? EXIT_SUCCESS : EXIT_FAILURE;
 }

@@ -53,3 +53,56 @@ const _: () = {
     assert!(size_of::<Header>() == 56 && offset_of!(Header, dirty) == 48);
     assert!(size_of::<Answer>() == 112 && offset_of!(Answer, counts) == 64 && offset_of!(Answer, length) == 104);
 };
+
+#[cfg(test)]
+mod tests {
+    use super::*;
+
+    const SIZE: Size = Size { n: 1, k: 1, capacity: 1 };
+
+    /// Every call that takes a header, with this one and a store of zeros.
+    fn answers(h: Header) -> [Answer; 15] {
+        let (mut store, mut out, mut text) = ([0; 14], [0; 2], [0; 1]);
+        let (to, len) = (store.as_mut_ptr(), store.len());
+        let from = to.cast_const();
+        // SAFETY: pointers and lengths are those of arrays, of which no two are the same.
+        unsafe {
+            [
+                tableau_sum_pauli_error(h, to, len, 0, 0.0, 0.0, 0.0),
+                tableau_sum_loss_channel(h, to, len, 0, 0.0),
+                tableau_sum_depolarize1(h, to, len, 0, 0.0),
+                tableau_sum_two_qubit_pauli_error(h, to, len, 0, 0, &[0.0; 15]),
+                tableau_sum_depolarize2(h, to, len, 0, 0, 0.0),
+                tableau_sum_reset_loss_channel(h, to, len, 0),
+                tableau_sum_h(h, to, len, 0),
+                tableau_sum_s(h, to, len, 0),
+                tableau_sum_cnot(h, to, len, 0, 0),
+                tableau_sum_truncate(h, to, len),
+                tableau_sum_normalise(h, to, len),
+                tableau_sum_table(h, from, len, out.as_mut_ptr(), out.len()),
+                tableau_sum_pick(h, from, len, 0.0),
+                tableau_sum_write_sheet(h, from, len, text.as_mut_ptr(), text.len()),
+                tableau_sum_view(h, from, len, 0),
+            ]
+        }
+    }
+
+    /// The proofs know one NaN only, so that these bits are handed back as they were given is tested.
+    #[test]
+    fn a_refused_call_keeps_the_bits_of_a_nan() {
+        // quiet; with a sign and a payload; signalling
+        let nans = [0x7ff8_0000_0000_0000, 0xfff8_0000_dead_beef, 0x7ff0_0000_0000_0001_u64];
+        let bounds = nans.into_iter().flat_map(|a| nans.map(|b| [a, b]));
+        let bounds = bounds.chain(nans.into_iter().flat_map(|a| [[a, 0], [0, a]]));
+        for [threshold, cutoff] in bounds {
+            for (n, number) in [(1, 2), (65, 1)] {
+                let size = Size { n, ..SIZE };
+                let h = Header { size, count: 1, threshold: f64::from_bits(threshold), cutoff: f64::from_bits(cutoff), dirty: true };
+                for a in answers(h) {
+                    let given = a.header;
+                    assert_eq!((a.number, given.threshold.to_bits(), given.cutoff.to_bits()), (number, threshold, cutoff));
+                }
+            }
+        }
+    }
+}

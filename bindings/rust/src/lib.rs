@@ -26,7 +26,7 @@
 //! Proved of the library: each call gives exactly what document 01 of the project says, for every input; it ends, stays inside the memory
 //! that it is lent, and changes nothing if it is refused; no list of calls leaves stale keys behind that make a branch miss its equal. The
 //! library never panics and never unwinds. It has no state of its own, so a [`TableauSum`] is [`Send`] and [`Sync`] like the vector that it
-//! owns.
+//! owns. In a thread with a small stack, [`STACK_BYTES`] says what a call takes.
 //!
 //! Not proved, but tested: this crate, which lends the library the memory.
 //!
@@ -45,5 +45,5 @@ mod sum;
 
 pub use entry::{Coefficient, Entry, Row};
 pub use error::Error;
-pub use size::{Size, MAX_CAPACITY, MAX_COEFFICIENTS, MAX_QUBITS};
+pub use size::{Size, MAX_CAPACITY, MAX_COEFFICIENTS, MAX_QUBITS, STACK_BYTES};
 pub use sum::{Counts, TableauSum};

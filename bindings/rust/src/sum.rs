@@ -204,7 +204,8 @@ impl TableauSum {
         Ok(answer.length)
     }
 
-    /// A view of the entry at a place. The library judges the whole sum for it; [`entries`](TableauSum::entries) does not.
+    /// A view of the entry at a place. The library checks the whole sum once for it, and the view then reads the store;
+    /// [`entries`](TableauSum::entries) makes no call.
     ///
     /// # Errors
     /// [`Error::BadPlace`].
@@ -213,7 +214,9 @@ impl TableauSum {
         Ok(Entry::new(self.size(), &self.store[place * length..][..length]))
     }
 
-    /// Word i of that view; 0 past its end, and where the view is refused.
+    /// Word i of that view; 0 past its end, and where the view is refused. Each call checks the whole sum again: whoever reads many words
+    /// takes them from one [view](TableauSum::view), or from the store, [`words`](TableauSum::words), where they stand from
+    /// `place * entry_words` on.
     pub fn view_word(&self, place: usize, i: usize) -> u64 {
         unsafe { ffi::tableau_sum_view_word(self.header, self.store.as_ptr(), self.store.len(), place, i) }
     }

@@ -1,7 +1,7 @@
 //! The C header and this crate's declarations say what crates/tableau_sum and crates/model say in Rattle: calls, structs, limits.
 
 use std::collections::BTreeMap;
-use tableau_sum::{Error, MAX_CAPACITY, MAX_COEFFICIENTS, MAX_QUBITS};
+use tableau_sum::{Error, MAX_CAPACITY, MAX_COEFFICIENTS, MAX_QUBITS, STACK_BYTES};
 
 const CALLS: &str = include_str!("../../../crates/tableau_sum/src/lib.rt");
 const TYPES: &str = include_str!("../../../crates/model/src/lib.rt");
@@ -112,6 +112,7 @@ fn the_limits_are_the_same() {
         assert!(TYPES.contains(&format!("pub const MAX_{name}: usize = {limit};")));
         assert!(HEADER.contains(&format!("#define TABLEAU_SUM_MAX_{name} {limit}\n")));
     }
+    assert!(HEADER.contains(&format!("#define TABLEAU_SUM_STACK_BYTES {STACK_BYTES}\n")));
 }
 
 /// BadSize as C has it: BAD_SIZE.

@@ -23,7 +23,7 @@ ghost use Rattle.channels.specs.Tests.{tested, MayRun, MayReset};
 // ---- channels
 
 // Number 4 applies: a rate that the noise names is not sound, or the rates add to more than 1.
-fn rates_refused(arms: Arms, named: bool) -> bool
+pub fn rates_refused(arms: Arms, named: bool) -> bool
     requires { ⌜ arms .count ≤ 15 ⌝ }
     ensures { λ r. ⌜ ((c : Noise) → Stands arms c → named ≡ every (upTo (float oneBits)) (rates c) → r ≡ not (ratesSound c)) ⌝ }
 {

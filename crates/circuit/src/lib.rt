@@ -17,6 +17,7 @@ pub use lines::Reach;
 pub use lines::Seen;
 pub use lines::Target;
 pub use lines::Verdict;
+pub use names::is_named;
 pub use names::takes_pairs;
 use numbers::Whole;
 use runs::Run;
@@ -224,6 +225,19 @@ fn with_tag(line: &[u8], name: Name, from: usize, to: usize) -> Line
         return bad_word(line, Fault::Blank, at);
     }
     with_arguments(line, name, from, to, at)
+}
+
+// Where the name that begins at a place ends.
+pub fn name_end(line: &[u8], from: usize) -> usize {
+    if from <= line.len() {
+        return runs::end(line, Run::Name, from);
+    }
+    from
+}
+
+// Whether a line begins with `}`.
+pub fn is_closing(line: &[u8]) -> bool {
+    runs::is_at(line, runs::end(line, Run::Blanks, 0), b'}')
 }
 
 // What a line asks for, or what is wrong in it.

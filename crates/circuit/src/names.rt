@@ -20,7 +20,7 @@ fn capital(b: u8) -> u8
 }
 
 // Whether a word is a name, in letters of any case.
-fn is(word: &[u8], name: &[u8]) -> bool
+pub fn is_named(word: &[u8], name: &[u8]) -> bool
     ensures { λ r. ⌜ r ≡ Names.spells (now (word .entry)) (now (name .entry)) ⌝ }
 {
     if word.len() != name.len() {
@@ -40,16 +40,16 @@ fn is(word: &[u8], name: &[u8]) -> bool
 pub fn named(word: &[u8]) -> Name
     ensures { λ r. ⌜ r ≡ Names.named (now (word .entry)) ⌝ }
 {
-    if is(word, b"H") {
+    if is_named(word, b"H") {
         return Name::H;
     }
-    if is(word, b"S") {
+    if is_named(word, b"S") {
         return Name::S;
     }
-    if is(word, b"CX") {
+    if is_named(word, b"CX") {
         return Name::Cx;
     }
-    if is(word, b"CNOT") {
+    if is_named(word, b"CNOT") {
         return Name::Cx;
     }
     named_error(word)
@@ -58,16 +58,16 @@ pub fn named(word: &[u8]) -> Name
 fn named_error(word: &[u8]) -> Name
     ensures { λ r. ⌜ r ≡ Names.namedError (now (word .entry)) ⌝ }
 {
-    if is(word, b"X_ERROR") {
+    if is_named(word, b"X_ERROR") {
         return Name::XError;
     }
-    if is(word, b"Y_ERROR") {
+    if is_named(word, b"Y_ERROR") {
         return Name::YError;
     }
-    if is(word, b"Z_ERROR") {
+    if is_named(word, b"Z_ERROR") {
         return Name::ZError;
     }
-    if is(word, b"I_ERROR") {
+    if is_named(word, b"I_ERROR") {
         return Name::IError;
     }
     named_channel(word)
@@ -76,16 +76,16 @@ fn named_error(word: &[u8]) -> Name
 fn named_channel(word: &[u8]) -> Name
     ensures { λ r. ⌜ r ≡ Names.namedChannel (now (word .entry)) ⌝ }
 {
-    if is(word, b"DEPOLARIZE1") {
+    if is_named(word, b"DEPOLARIZE1") {
         return Name::Depolarize1;
     }
-    if is(word, b"DEPOLARIZE2") {
+    if is_named(word, b"DEPOLARIZE2") {
         return Name::Depolarize2;
     }
-    if is(word, b"PAULI_CHANNEL_1") {
+    if is_named(word, b"PAULI_CHANNEL_1") {
         return Name::PauliChannel1;
     }
-    if is(word, b"PAULI_CHANNEL_2") {
+    if is_named(word, b"PAULI_CHANNEL_2") {
         return Name::PauliChannel2;
     }
     named_rest(word)
@@ -94,13 +94,13 @@ fn named_channel(word: &[u8]) -> Name
 fn named_rest(word: &[u8]) -> Name
     ensures { λ r. ⌜ r ≡ Names.namedRest (now (word .entry)) ⌝ }
 {
-    if is(word, b"I") {
+    if is_named(word, b"I") {
         return Name::I;
     }
-    if is(word, b"TICK") {
+    if is_named(word, b"TICK") {
         return Name::Tick;
     }
-    if is(word, b"REPEAT") {
+    if is_named(word, b"REPEAT") {
         return Name::Repeat;
     }
     Name::Other

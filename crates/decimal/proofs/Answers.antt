@@ -12,6 +12,7 @@ use lib.Ieee.Scale.{finite}
 use Rattle.words.proofs.Rounded.{zero-rounded}
 use Rattle.nearest.proofs.Far.{too-far-up, too-far-down}
 use borrow.Author.Tests.{eq-eqb, ne-eqb, lt-ltb, le-ltb, ltb-true, ltb-false}
+use Rattle.nearest.specs.Large.{digitLimit}
 use Rattle.decimal.specs.Digits.{byteAt}
 use Rattle.decimal.specs.Decimals.{minus, signEnd, significandAt, exponentAt, up, down, signed, refused, answerFor, scaled, answerOf, decimalAt}
 use Rattle.decimal.specs.Bounds.{largest, capped, cappedSignificand, cappedExponent}
@@ -35,7 +36,7 @@ module _ (negative : Bool) (size : Float) (end : ℕ) where
 
 module _ (negative : Bool) (m end : ℕ) where
   -- divided by one large power of ten or by another, m is 0
-  pub vanishes : m < 10 ^ 15 → (d e : ℕ) → 341 ≤ d → 341 ≤ e → scaled negative m 0 d end ≡ scaled negative m 0 e end
+  pub vanishes : m < digitLimit → (d e : ℕ) → 343 ≤ d → 343 ≤ e → scaled negative m 0 d end ≡ scaled negative m 0 e end
   unfolding scaled
   vanishes h d e p q =
       ap (λ (v : Float). answerFor negative v end)
@@ -57,34 +58,34 @@ module _ (negative : Bool) (m end : ℕ) where
 -- ---- the cases of an answer
 
 module _ (negative : Bool) (m f : ℕ) (x : Exponent) where
-  pub too-many : 10 ^ 15 ≤ m → refused 2 (x .end) ≡ answerOf negative m f x
+  pub too-many : digitLimit ≤ m → refused 2 (x .end) ≡ answerOf negative m f x
   unfolding answerOf
-  too-many h = rw (le-ltb m (10 ^ 15) h)
+  too-many h = rw (le-ltb m digitLimit h)
 
-  module _ (h : m < 10 ^ 15) where
+  module _ (h : m < digitLimit) where
     pub far-below : x .negative ≡ true → 400 ≤ x .size → scaled negative m 0 400 (x .end) ≡ answerOf negative m f x
     unfolding answerOf up down
-    far-below n g = rw (lt-ltb m (10 ^ 15) h, n) (vanishes negative m (x .end) h 400 (x .size + f) (omega arith) (omega arith))
+    far-below n g = rw (lt-ltb m digitLimit h, n) (vanishes negative m (x .end) h 400 (x .size + f) (omega arith) (omega arith))
 
     pub lowered : x .negative ≡ true → scaled negative m 0 (x .size + f) (x .end) ≡ answerOf negative m f x
     unfolding answerOf up down
-    lowered n = rw (lt-ltb m (10 ^ 15) h, n)
+    lowered n = rw (lt-ltb m digitLimit h, n)
 
     pub raised : x .negative ≡ false → f ≤ x .size → scaled negative m (x .size - f) 0 (x .end) ≡ answerOf negative m f x
     unfolding answerOf up down
     raised n g =
         let z : f - x .size ≡ 0 = omega arith in
-        rw (lt-ltb m (10 ^ 15) h, n, z)
+        rw (lt-ltb m digitLimit h, n, z)
 
     pub less-raised : x .negative ≡ false → x .size < f → scaled negative m 0 (f - x .size) (x .end) ≡ answerOf negative m f x
     unfolding answerOf up down
     less-raised n g =
         let z : x .size - f ≡ 0 = omega arith in
-        rw (lt-ltb m (10 ^ 15) h, n, z)
+        rw (lt-ltb m digitLimit h, n, z)
 
 -- ---- numbers that are capped
 
-module _ (negative : Bool) (m f end : ℕ) (fits : f < 2 ^ 63) (h : m < 10 ^ 15) where
+module _ (negative : Bool) (m f end : ℕ) (fits : f < 2 ^ 63) (h : m < digitLimit) where
   abbrev of : Bool → ℕ → Decimal
   of n s = scaled negative m (up n s f) (down n s f) end
 
@@ -109,12 +110,12 @@ module _ (negative : Bool) (m f end : ℕ) (fits : f < 2 ^ 63) (h : m < 10 ^ 15)
 module _ (negative : Bool) (m f : ℕ) (x : Exponent) where
   capped-exponent : f < 2 ^ 63 → answerOf negative m f (cappedExponent x) ≡ answerOf negative m f x
   unfolding answerOf cappedExponent
-  capped-exponent h = go (ltb m (10 ^ 15)) refl
+  capped-exponent h = go (ltb m digitLimit) refl
     where
-      go : (t : Bool) → ltb m (10 ^ 15) ≡ t → answerOf negative m f (cappedExponent x) ≡ answerOf negative m f x
-      go true e = ap (λ (d : Decimal). cond (ltb m (10 ^ 15)) d (refused 2 (x .end))) (capped-size negative m f (x .end) h (ltb-true m (10 ^ 15) e) (x .negative) (x .size))
+      go : (t : Bool) → ltb m digitLimit ≡ t → answerOf negative m f (cappedExponent x) ≡ answerOf negative m f x
+      go true e = ap (λ (d : Decimal). cond (ltb m digitLimit) d (refused 2 (x .end))) (capped-size negative m f (x .end) h (ltb-true m digitLimit e) (x .negative) (x .size))
       go false e =
-          let l : 10 ^ 15 ≤ m = ltb-false m (10 ^ 15) e in
+          let l : digitLimit ≤ m = ltb-false m digitLimit e in
           sym (too-many negative m f (cappedExponent x) l) ∙ too-many negative m f x l
 
   capped-number : answerOf negative (capped m) f x ≡ answerOf negative m f x

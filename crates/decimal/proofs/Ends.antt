@@ -9,6 +9,7 @@ use lib.Dec.{eqb, ltb}
 use lib.Ieee.{binary64, round}
 use lib.Ieee.Scale.{finite}
 use lib.ListN.{length, drop, length-drop, List·getD-eq-default}
+use Rattle.nearest.specs.Large.{digitLimit}
 use Rattle.decimal.specs.Digits.{byteAt, isDigit, digits, digitsAt, digitsEnd, number}
 use Rattle.decimal.specs.Wholes.{wholeAt}
 use Rattle.decimal.specs.Decimals.{minus, point, isSign, isExponent, signEnd, significandAt, exponentAt, up, down, answerFor, scaled, answerOf, decimalAt}
@@ -91,7 +92,7 @@ module _ (text : List ℕ) where
   answer-end : (negative : Bool) (m f : ℕ) (x : Exponent) → answerOf negative m f x .end ≡ x .end
   unfolding answerOf scaled answerFor
   answer-end negative m f x =
-      by-test (λ (d : Decimal). d .end ≡ x .end) (ltb m (10 ^ 15)) _ _
+      by-test (λ (d : Decimal). d .end ≡ x .end) (ltb m digitLimit) _ _
       (λ e.
       by-test (λ (d : Decimal). d .end ≡ x .end)
       (finite (round binary64 false (m * 10 ^ up (x .negative) (x .size) f) (10 ^ down (x .negative) (x .size) f)))

@@ -55,15 +55,39 @@ bare-e : decimalAt (49 ∷ 50 ∷ 101 ∷ 43 ∷ []) 0 ≡ read 0 0x4028_0000_00
 unfolding decimalAt significandAt signEnd isSign digits isDigit numberFrom exponentAt isExponent answerOf scaled answerFor up down signed round neg ofBits
 bare-e = refl
 
--- ---- powers of ten that are no f64s; the largest f64 that 15 digits can write, and the smallest above 0
+-- ---- more digits than an f64 holds: rounded first, and then divided, they would give another f64
+
+-- 0.009583005037279291
+sixteen-digits : decimalAt (48 ∷ 46 ∷ 48 ∷ 48 ∷ 57 ∷ 53 ∷ 56 ∷ 51 ∷ 48 ∷ 48 ∷ 53 ∷ 48 ∷ 51 ∷ 55 ∷ 50 ∷ 55 ∷ 57 ∷ 50 ∷ 57 ∷ 49 ∷ []) 0 ≡ read 0 0x3f83_a041_29dc_324d 20
+unfolding decimalAt significandAt signEnd isSign digits isDigit numberFrom exponentAt isExponent answerOf scaled answerFor up down signed round neg ofBits
+sixteen-digits = refl
+
+-- 0.0037978053378978026
+seventeen-digits : decimalAt (48 ∷ 46 ∷ 48 ∷ 48 ∷ 51 ∷ 55 ∷ 57 ∷ 55 ∷ 56 ∷ 48 ∷ 53 ∷ 51 ∷ 51 ∷ 55 ∷ 56 ∷ 57 ∷ 55 ∷ 56 ∷ 48 ∷ 50 ∷ 54 ∷ []) 0 ≡ read 0 0x3f6f_1c93_3721_8c73 21
+unfolding decimalAt significandAt signEnd isSign digits isDigit numberFrom exponentAt isExponent answerOf scaled answerFor up down signed round neg ofBits
+seventeen-digits = refl
+
+-- ---- in the middle between two f64s, and a little above that
+
+-- 9007199254740993
+middle : decimalAt (57 ∷ 48 ∷ 48 ∷ 55 ∷ 49 ∷ 57 ∷ 57 ∷ 50 ∷ 53 ∷ 52 ∷ 55 ∷ 52 ∷ 48 ∷ 57 ∷ 57 ∷ 51 ∷ []) 0 ≡ read 0 0x4340_0000_0000_0000 16
+unfolding decimalAt significandAt signEnd isSign digits isDigit numberFrom exponentAt isExponent answerOf scaled answerFor up down signed round neg ofBits
+middle = refl
+
+-- 9007199254740993.001
+above-middle : decimalAt (57 ∷ 48 ∷ 48 ∷ 55 ∷ 49 ∷ 57 ∷ 57 ∷ 50 ∷ 53 ∷ 52 ∷ 55 ∷ 52 ∷ 48 ∷ 57 ∷ 57 ∷ 51 ∷ 46 ∷ 48 ∷ 48 ∷ 49 ∷ []) 0 ≡ read 0 0x4340_0000_0000_0001 20
+unfolding decimalAt significandAt signEnd isSign digits isDigit numberFrom exponentAt isExponent answerOf scaled answerFor up down signed round neg ofBits
+above-middle = refl
+
+-- ---- powers of ten that are no f64s; the largest f64, and the smallest above 0
 
 -- 123456789012345e23
 large-power : decimalAt (49 ∷ 50 ∷ 51 ∷ 52 ∷ 53 ∷ 54 ∷ 55 ∷ 56 ∷ 57 ∷ 48 ∷ 49 ∷ 50 ∷ 51 ∷ 52 ∷ 53 ∷ 101 ∷ 50 ∷ 51 ∷ []) 0 ≡ read 0 0x47a2_9361_ede0_0449 18
 unfolding decimalAt significandAt signEnd isSign digits isDigit numberFrom exponentAt isExponent answerOf scaled answerFor up down signed round neg ofBits
 large-power = refl
 
--- 1.79769313486231E308
-largest : decimalAt (49 ∷ 46 ∷ 55 ∷ 57 ∷ 55 ∷ 54 ∷ 57 ∷ 51 ∷ 49 ∷ 51 ∷ 52 ∷ 56 ∷ 54 ∷ 50 ∷ 51 ∷ 49 ∷ 69 ∷ 51 ∷ 48 ∷ 56 ∷ []) 0 ≡ read 0 0x7fef_ffff_ffff_ffe2 20
+-- 1.7976931348623157E308
+largest : decimalAt (49 ∷ 46 ∷ 55 ∷ 57 ∷ 55 ∷ 54 ∷ 57 ∷ 51 ∷ 49 ∷ 51 ∷ 52 ∷ 56 ∷ 54 ∷ 50 ∷ 51 ∷ 49 ∷ 53 ∷ 55 ∷ 69 ∷ 51 ∷ 48 ∷ 56 ∷ []) 0 ≡ read 0 0x7fef_ffff_ffff_ffff 22
 unfolding decimalAt significandAt signEnd isSign digits isDigit numberFrom exponentAt isExponent answerOf scaled answerFor up down signed round neg ofBits
 largest = refl
 
@@ -82,10 +106,17 @@ rounded-to-zero : decimalAt (45 ∷ 50 ∷ 101 ∷ 45 ∷ 51 ∷ 50 ∷ 52 ∷ [
 unfolding decimalAt significandAt signEnd isSign digits isDigit numberFrom exponentAt isExponent answerOf scaled answerFor up down signed round neg ofBits
 rounded-to-zero = refl
 
--- ---- refused: 16 digits; beyond the f64s; no digit
+-- ---- the most that 19 digits write
 
--- 1000000000000000
-too-long : decimalAt (49 ∷ 48 ∷ 48 ∷ 48 ∷ 48 ∷ 48 ∷ 48 ∷ 48 ∷ 48 ∷ 48 ∷ 48 ∷ 48 ∷ 48 ∷ 48 ∷ 48 ∷ 48 ∷ []) 0 ≡ read 2 0 16
+-- 9999999999999999999
+longest : decimalAt (57 ∷ 57 ∷ 57 ∷ 57 ∷ 57 ∷ 57 ∷ 57 ∷ 57 ∷ 57 ∷ 57 ∷ 57 ∷ 57 ∷ 57 ∷ 57 ∷ 57 ∷ 57 ∷ 57 ∷ 57 ∷ 57 ∷ []) 0 ≡ read 0 0x43e1_58e4_6091_3d00 19
+unfolding decimalAt significandAt signEnd isSign digits isDigit numberFrom exponentAt isExponent answerOf scaled answerFor up down signed round neg ofBits
+longest = refl
+
+-- ---- refused: 20 digits; beyond the f64s; no digit
+
+-- 10000000000000000000
+too-long : decimalAt (49 ∷ 48 ∷ 48 ∷ 48 ∷ 48 ∷ 48 ∷ 48 ∷ 48 ∷ 48 ∷ 48 ∷ 48 ∷ 48 ∷ 48 ∷ 48 ∷ 48 ∷ 48 ∷ 48 ∷ 48 ∷ 48 ∷ 48 ∷ []) 0 ≡ read 2 0 20
 unfolding decimalAt significandAt signEnd isSign digits isDigit numberFrom exponentAt isExponent answerOf scaled answerFor up down signed round neg ofBits
 too-long = refl
 

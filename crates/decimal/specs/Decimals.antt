@@ -7,6 +7,7 @@ use lib.Dec.{eqb, ltb}
 use lib.ListN.{length}
 use lib.Ieee.{Float, binary64, ofBits, round, neg}
 use lib.Ieee.Scale.{finite}
+use Rattle.nearest.specs.Large.{digitLimit}
 use Rattle.decimal.specs.Digits.{byteAt, digitsAt, digitsEnd, number}
 use Rattle.decimal.specs.declared.Significand.{Significand}
 use Rattle.decimal.specs.declared.Exponent.{Exponent}
@@ -81,10 +82,10 @@ answerFor negative size end = cond (finite size) (record { status = 0; value = s
 unfoldable pub scaled : Bool → ℕ → ℕ → ℕ → ℕ → Decimal
 scaled negative m up down end = answerFor negative (round binary64 false (m * 10 ^ up) (10 ^ down)) end
 
--- 2: the digits write 10^15 or more
+-- 2: the digits write 10^19 or more
 unfoldable pub answerOf : Bool → ℕ → ℕ → Exponent → Decimal
 answerOf negative m f x =
-    cond (ltb m (10 ^ 15))
+    cond (ltb m digitLimit)
     (scaled negative m (up (x .negative) (x .size) f) (down (x .negative) (x .size) f) (x .end))
     (refused 2 (x .end))
 

@@ -1,6 +1,6 @@
 // What is read at a place of a text.
 
-// status 0: a number, and `value` is the f64 nearest to it; 1: no number stands there; 2: its digits before the exponent write 10^15 or
+// status 0: a number, and `value` is the f64 nearest to it; 1: no number stands there; 2: its digits before the exponent write 10^19 or
 // more; 3: the nearest f64 is infinite. `end` is where the number's text ends. Of 1, 2 and 3 `value` is 0.
 pub struct Decimal {
     pub status: u64,

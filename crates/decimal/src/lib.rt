@@ -9,6 +9,7 @@ ghost use Prim.Native.Nat.{_^_, _<_};
 ghost use lib.ListN.{length};
 ghost use lib.Ieee.{inf, lt};
 ghost use lib.Ieee.Scale.{finite};
+ghost use Rattle.nearest.specs.Large.{digitLimit};
 ghost use Rattle.decimal.specs.Digits.{byteAt};
 ghost use Rattle.decimal.specs.Decimals.{isSign, signEnd, isExponent, significandAt, exponentAt, signed, refused, answerFor, scaled, answerOf, decimalAt};
 ghost use Rattle.decimal.specs.Wholes.{wholeAt};
@@ -204,7 +205,7 @@ fn answer_for(negative: bool, size: f64, end: usize) -> Decimal
 
 // ±m × 10^up.
 fn multiplied(negative: bool, m: u64, up: u64, end: usize) -> Decimal
-    requires { ⌜ m < 10 ^ 15 ⌝ }
+    requires { ⌜ m < digitLimit ⌝ }
     ensures { λ r. ⌜ r ≡ scaled negative m up 0 end ⌝ }
 {
     answer_for(negative, nearest::multiplied(m, up), end)
@@ -212,7 +213,7 @@ fn multiplied(negative: bool, m: u64, up: u64, end: usize) -> Decimal
 
 // ±m / 10^down.
 fn divided(negative: bool, m: u64, down: u64, end: usize) -> Decimal
-    requires { ⌜ m < 10 ^ 15 ⌝ }
+    requires { ⌜ m < digitLimit ⌝ }
     ensures { λ r. ⌜ r ≡ scaled negative m 0 down end ⌝ }
 {
     answer_for(negative, nearest::divided(m, down), end)
@@ -223,7 +224,7 @@ fn answer_of(negative: bool, m: u64, f: u64, x: Exponent) -> Decimal
     requires { ⌜ f < 2 ^ 63 ⌝ }
     ensures { λ r. ⌜ r ≡ answerOf negative m f x ⌝ }
 {
-    if 1_000_000_000_000_000 <= m {
+    if 10_000_000_000_000_000_000 <= m {
         return refusal(2, x.end);
     }
     if x.negative {

@@ -1,8 +1,12 @@
-// The first pass: every line is parsed, blocks are matched, and the qubits counted. It ends at the first line that is bad.
+// The first pass: every line is parsed, its rates are judged, blocks are matched, and the qubits counted. It stands still at each line that
+// is bad, and can go on from there.
 use circuit::Act;
+use circuit::Fault;
 use circuit::Item;
+use circuit::Line;
 use circuit::Verdict;
 use input::Found;
+use input::Source;
 use walk::Outcome;
 use walk::Walk;
 
@@ -16,34 +20,59 @@ fn with(walk: Walk, qubits: usize) -> Checked {
     Checked { walk, qubits }
 }
 
-// The targets of a call, of which all are below `limit`.
-fn check_targets(
-    line: &[u8],
-    targets: usize,
-    act: Act,
-    w: Walk,
-    qubits: usize,
-    limit: usize,
-) -> Checked {
-    let r = circuit::reach(line, targets, circuit::takes_pairs(act), limit);
+// Nothing is looked at yet.
+pub fn start() -> Checked {
+    with(walk::start(), 0)
+}
+
+// The walk goes on after a bad line.
+pub fn resumed(c: Checked) -> Checked {
+    with(walk::resumed(c.walk), c.qubits)
+}
+
+// ---- calls
+
+// The rates of a call.
+fn check_rates(l: Line, act: Act, w: Walk, qubits: usize) -> Checked {
+    let rates = l.rates;
+    if calls::rates_sound(act, rates) {
+        return with(w, qubits);
+    }
+    with(walk::ended(w, Outcome::Rates, l.from, l.targets), qubits)
+}
+
+// The targets of a call, of which all are below `limit`, and its rates.
+fn check_call(line: &[u8], l: Line, act: Act, w: Walk, qubits: usize, limit: usize) -> Checked {
+    let r = circuit::reach(line, l.targets, circuit::takes_pairs(act), limit);
     let verdict = r.verdict;
     if let Verdict::Bad(fault) = verdict {
         return with(walk::ended(w, Outcome::Bad(fault), r.from, r.to), qubits);
     }
     if qubits < r.qubits {
-        return with(w, r.qubits);
+        return check_rates(l, act, w, r.qubits);
     }
-    with(w, qubits)
+    check_rates(l, act, w, qubits)
 }
 
-// A block begins: `begun` has the line of each REPEAT that is open.
+// ---- blocks: `begun` has the line of each REPEAT that is open, of the first 64
+
+// One more block is open.
+fn deeper(w: Walk) -> Walk {
+    let depth = w.depth;
+    if depth < usize::MAX {
+        return walk::at_depth(w, depth + 1);
+    }
+    w
+}
+
+// A block begins.
 fn open(begun: &mut [u64; 64], w: Walk, from: usize, to: usize) -> Walk {
     let depth = w.depth;
     if depth < 64 {
         begun[depth] = w.line;
-        return walk::at_depth(w, depth + 1);
+        return deeper(w);
     }
-    walk::ended(w, Outcome::TooDeep, from, to)
+    walk::ended(deeper(w), Outcome::TooDeep, from, to)
 }
 
 // .. ends.
@@ -55,38 +84,69 @@ fn close(w: Walk, from: usize, to: usize) -> Walk {
     walk::ended(w, Outcome::NoRepeat, from, to)
 }
 
+// A bad line that begins a block or ends one still does, so that the other end is not told as bad for it.
+fn matched(line: &[u8], begun: &mut [u64; 64], w: Walk, fault: Fault) -> Walk {
+    match fault {
+        Fault::Repeats => open(begun, w, 0, 0),
+        Fault::After => {
+            if circuit::is_closing(line) {
+                return close(w, 0, 0);
+            }
+            open(begun, w, 0, 0)
+        }
+        _ => w,
+    }
+}
+
+// ---- lines
+
 fn check_item(line: &[u8], begun: &mut [u64; 64], w: Walk, qubits: usize, limit: usize) -> Checked {
     let l = circuit::parse(line);
     let item = l.item;
     match item {
         Item::Nothing => with(w, qubits),
-        Item::Bad(fault) => with(walk::ended(w, Outcome::Bad(fault), l.from, l.to), qubits),
-        Item::Call(act) => check_targets(line, l.targets, act, w, qubits, limit),
+        Item::Bad(fault) => {
+            let after = matched(line, begun, w, fault);
+            with(
+                walk::ended(after, Outcome::Bad(fault), l.from, l.to),
+                qubits,
+            )
+        }
+        Item::Call(act) => check_call(line, l, act, w, qubits, limit),
         Item::Repeat(_) => with(open(begun, w, l.from, l.to), qubits),
         Item::Close => with(close(w, l.from, l.to), qubits),
     }
+}
+
+// The line of the innermost block that is open.
+fn innermost(begun: &[u64; 64], depth: usize) -> u64 {
+    if depth < 1 {
+        return 0;
+    }
+    if 64 < depth {
+        return begun[63];
+    }
+    begun[depth - 1]
 }
 
 // At the circuit's end no block is open.
 fn check_end(begun: &[u64; 64], w: Walk) -> Walk {
     let depth = w.depth;
     if 0 < depth {
-        if depth <= 64 {
-            return walk::ended(w, Outcome::Unclosed(begun[depth - 1]), 0, 0);
-        }
+        return walk::ended(w, Outcome::Unclosed(innermost(begun, depth)), 0, 0);
     }
     walk::ended(w, Outcome::Done, 0, 0)
 }
 
 fn check_line(
-    fd: i32,
+    s: Source,
     bytes: &mut [u8],
     begun: &mut [u64; 64],
     c: Checked,
     limit: usize,
 ) -> Checked {
     let before = c.walk;
-    let window = input::next_line(fd, bytes, before.window);
+    let window = input::next_line(s, bytes, before.window);
     let found = window.found;
     let from = window.from;
     let to = window.to;
@@ -96,17 +156,23 @@ fn check_line(
         Found::End => with(check_end(begun, w), c.qubits),
         Found::TooLong => with(walk::ended(w, Outcome::TooLong, 0, 0), c.qubits),
         Found::Failed => with(walk::ended(w, Outcome::Failed, 0, 0), c.qubits),
+        Found::Cut => with(walk::ended(w, Outcome::Cut, 0, 0), c.qubits),
     }
 }
 
-// The whole circuit. A proved loop has to end, and nothing says that a file does: the turns are counted down from a number that no run
-// uses up.
-pub fn check(fd: i32, bytes: &mut [u8], limit: usize) -> Checked {
-    let mut begun = [0u64; 64];
-    let mut c = with(walk::start(), 0);
+// The lines up to the next bad one, or to the circuit's end. A proved loop has to end, and nothing says that a file does: the turns are
+// counted down from a number that no run uses up.
+pub fn check(
+    s: Source,
+    bytes: &mut [u8],
+    begun: &mut [u64; 64],
+    so_far: Checked,
+    limit: usize,
+) -> Checked {
+    let mut c = so_far;
     let mut turns = u64::MAX;
     while turns > 0 {
-        c = check_line(fd, bytes, &mut begun, c, limit);
+        c = check_line(s, bytes, begun, c, limit);
         if !walk::is_going(c.walk) {
             return c;
         }

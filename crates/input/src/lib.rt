@@ -1,56 +1,12 @@
-// The circuit, read at offsets: a window of its bytes, and the line that begins at an offset.
+// The circuit: a copy of its own, read at offsets. A window of its bytes, and the line that begins at an offset.
+mod copying;
+
+pub use copying::Source;
+pub use copying::take;
 ghost use mathlib.Core.Path.{_≡_};
 ghost use Prim.Native.Nat.{_≤_};
 ghost use lib.ListN.{length};
-
-// ---- what can be read at an offset
-
-// Bytes once read and written; whether to go on.
-fn copy_some(from: i32, to: i32, bytes: &mut [u8]) -> bool {
-    let got = libc::read(from, bytes);
-    if got < 0 {
-        os::fail(b"run_circuit: standard input");
-        return false;
-    }
-    if got == 0 {
-        return false;
-    }
-    let n = io::count(got, bytes);
-    if io::write_all(to, &bytes[..n]) {
-        return true;
-    }
-    os::fail(b"run_circuit: /tmp");
-    false
-}
-
-fn copy_all(from: i32, to: i32, bytes: &mut [u8]) {
-    let mut turns = u64::MAX;
-    while turns > 0 && copy_some(from, to, bytes) {
-        turns -= 1;
-    }
-}
-
-// A copy of what comes from a pipe, in a file without a name; -1 if it cannot be made.
-fn copied(fd: i32, bytes: &mut [u8]) -> i32 {
-    let mut name = *b"/tmp/run_circuit.XXXXXX";
-    let copy = os::create_temp(&mut name);
-    if copy < 0 {
-        os::fail(b"run_circuit: /tmp/run_circuit.XXXXXX");
-        return copy;
-    }
-    os::unlink(&name);
-    copy_all(fd, copy, bytes);
-    copy
-}
-
-// Standard input, if it is a file that stands at its start; else a copy of it.
-pub fn standard_input(bytes: &mut [u8]) -> i32 {
-    let at = libc::lseek(libc::STDIN_FILENO, 0, libc::SEEK_CUR);
-    if at == 0 {
-        return libc::STDIN_FILENO;
-    }
-    copied(libc::STDIN_FILENO, bytes)
-}
+ghost use Rattle.input.specs.Marks.{markLength};
 
 // ---- lines
 
@@ -62,6 +18,8 @@ pub enum Found {
     TooLong,
     // It could not be read: errno says why.
     Failed,
+    // Fewer bytes were there than had been copied.
+    Cut,
 }
 
 // The window holds `fill` bytes from the offset `base` on. The line that was found stands from `from` to `to` in it, and the next one
@@ -107,19 +65,20 @@ fn plus(a: u64, b: u64) -> u64 {
     u64::MAX
 }
 
-// The place of the first line end from `from` on, before `to`; `to` if there is none.
-fn line_end(bytes: &[u8], from: usize, to: usize) -> usize
-    requires { ⌜ (from ≤ to) × (to ≤ length (now bytes)) ⌝ }
-    ensures { λ r. ⌜ (from ≤ r) × (r ≤ to) ⌝ }
+// The byte order mark that a text begins with: how long it is, 0 if there is none.
+fn mark_length(text: &[u8]) -> usize
+    ensures { λ r. ⌜ r ≡ markLength (now (text .entry)) ⌝ }
 {
-    let mut i = from;
-    while i < to {
-        if bytes[i] == b'\n' {
-            return i;
+    if 2 < text.len() {
+        if text[0] == 0xEF {
+            if text[1] == 0xBB {
+                if text[2] == 0xBF {
+                    return 3;
+                }
+            }
         }
-        i += 1;
     }
-    i
+    0
 }
 
 // The stretch of the window up to `to`, and one more byte for the line end.
@@ -145,7 +104,7 @@ fn held(bytes: &[u8], w: Window) -> Window
         if w.base <= w.next {
             let ahead = (w.next - w.base) as usize;
             if ahead < fill {
-                let to = line_end(bytes, ahead, fill);
+                let to = bytes::scan::find(bytes, ahead, fill, b'\n');
                 if to < fill {
                     return stretch(w.base, fill, ahead, to, Found::Line);
                 }
@@ -198,42 +157,59 @@ fn fill_all(fd: i32, bytes: &mut [u8], offset: u64) -> Filled
     Filled { fill, ok: true }
 }
 
-// The line at the start of a window that was filled anew.
+// The line at the start of a window that was filled anew. A byte order mark at the start of the circuit is passed over.
 fn first(bytes: &[u8], base: u64, fill: usize) -> Window
     ensures { λ r. ⌜ (r .from ≤ r .to) × (r .to ≤ length (now (bytes .entry))) ⌝ }
 {
-    if fill == 0 {
-        return stretch(base, 0, 0, 0, Found::End);
+    let mut from = 0;
+    if base == 0 {
+        from = mark_length(bytes);
     }
     if fill <= bytes.len() {
-        let to = line_end(bytes, 0, fill);
-        if to == bytes.len() {
-            return stretch(base, fill, 0, to, Found::TooLong);
+        if from <= fill {
+            let to = bytes::scan::find(bytes, from, fill, b'\n');
+            if to == bytes.len() {
+                return stretch(base, fill, from, to, Found::TooLong);
+            }
+            return stretch(base, fill, from, to, Found::Line);
         }
-        return stretch(base, fill, 0, to, Found::Line);
     }
-    stretch(base, 0, 0, 0, Found::Failed)
+    stretch(base, 0, 0, 0, Found::Cut)
 }
 
-// .. after the window is filled from there on.
-fn refilled(fd: i32, bytes: &mut [u8], next: u64) -> Window
+// Whether the window has all bytes that it should have: those up to the end of the circuit, or as many as it holds.
+fn is_whole(s: Source, next: u64, fill: usize, room: usize) -> bool {
+    if fill == room {
+        return true;
+    }
+    plus(next, fill as u64) == s.size
+}
+
+// The line at an offset, after the window is filled from there on.
+fn refilled(s: Source, bytes: &mut [u8], next: u64) -> Window
     ensures { λ r. ⌜ (r .from ≤ r .to) × (r .to ≤ length (now (bytes .exit))) ⌝ }
 {
-    let f = fill_all(fd, bytes, next);
-    if f.ok {
+    let f = fill_all(s.fd, bytes, next);
+    if !f.ok {
+        return stretch(next, 0, 0, 0, Found::Failed);
+    }
+    if is_whole(s, next, f.fill, bytes.len()) {
         return first(bytes, next, f.fill);
     }
-    stretch(next, 0, 0, 0, Found::Failed)
+    stretch(next, 0, 0, 0, Found::Cut)
 }
 
 // THE NEXT LINE.
-pub fn next_line(fd: i32, bytes: &mut [u8], w: Window) -> Window
+pub fn next_line(s: Source, bytes: &mut [u8], w: Window) -> Window
     ensures { λ r. ⌜ (r .from ≤ r .to) × (r .to ≤ length (now (bytes .exit))) ⌝ }
 {
+    if s.size <= w.next {
+        return stretch(s.size, 0, 0, 0, Found::End);
+    }
     let h = held(bytes, w);
     let found = h.found;
     if let Found::Line = found {
         return h;
     }
-    refilled(fd, bytes, w.next)
+    refilled(s, bytes, w.next)
 }

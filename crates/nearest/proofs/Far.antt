@@ -10,6 +10,7 @@ use lib.Ieee.{inf, binary64, size, odd, units, round, ofBits, nearest}
 use lib.Ieee.Nearest.{closest}
 use lib.Ieee.Order.{drop, kept}
 use borrow.Author.Tests.{le-ltb}
+use Rattle.nearest.specs.Large.{digitLimit}
 use Rattle.nearest.proofs.Scaled.{size-gt, kept-at-least}
 use Rattle.nearest.proofs.Patterns.{rounded-is}
 use Rattle.nearest.proofs.Closest.{picks-lower}
@@ -56,8 +57,8 @@ small num den h =
     sym (rounded-is num den
     ∙ ap₂ (λ (q k : ℕ). units binary64 false q k) (nothing-kept (num * 2 ^ 1074) den h) (nothing-dropped (num * 2 ^ 1074) den h))
 
-pub too-far-down : (m down : ℕ) → m < 10 ^ 15 → 341 ≤ down → ofBits binary64 0 ≡ round binary64 false m (10 ^ down)
+pub too-far-down : (m down : ℕ) → m < digitLimit → 343 ≤ down → ofBits binary64 0 ≡ round binary64 false m (10 ^ down)
 too-far-down m down p h =
     small m (10 ^ down)
     (lt-of-le-of-lt (mul-le-mul-right 2 (mul-le-mul-right (2 ^ 1074) (le-of-lt p)))
-    (lt-of-lt-of-le {m = 10 ^ 341} (lit< tt) (pow-le-pow-right {n = 10} (omega arith) h)))
+    (lt-of-lt-of-le {m = 10 ^ 343} (lit< tt) (pow-le-pow-right {n = 10} (omega arith) h)))

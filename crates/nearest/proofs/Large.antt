@@ -44,24 +44,25 @@ product-value f c (b ∷ bs) =
     omega arith
 
 -- .. of which nothing is lost
-pub product-whole : (f : ℕ) (a r : List ℕ) → r ≡ product f 0 a → valueOf a * f < 256 ^ length a → valueOf r ≡ valueOf a * f
-product-whole f a r e h = ap valueOf e ∙ product-value f 0 a ∙ ap (λ (z : ℕ). z % 256 ^ length a) (add-zero (valueOf a * f)) ∙ mod-eq-of-lt h
+pub product-whole : (f c v : ℕ) (a r : List ℕ) → r ≡ product f c a → valueOf a * f + c ≡ v → v < 256 ^ length a → valueOf r ≡ v
+product-whole f c v a r e w h = ap valueOf e ∙ product-value f c a ∙ ap (λ (z : ℕ). z % 256 ^ length a) w ∙ mod-eq-of-lt h
 
-module _ (f : ℕ) (a : List ℕ) (i c : ℕ) where
-  -- the first i bytes are those of the product
+module _ (f : ℕ) (p : List ℕ) (i c : ℕ) where
+  -- the first i bytes are those of the product p, and c is carried
   abbrev pub Multiplied : List ℕ → Type 0
-  Multiplied r = take i r ++ product f c (drop i r) ≡ product f 0 a
+  Multiplied r = take i r ++ product f c (drop i r) ≡ p
 
-  pub product-next : (r : List ℕ) → i < length r → Multiplied r → take (i + 1) (set r i ((getD r i 0 * f + c) % 256)) ++ product f ((getD r i 0 * f + c) / 256) (drop (i + 1) (set r i ((getD r i 0 * f + c) % 256))) ≡ product f 0 a
+  pub product-next : (r : List ℕ) (x : ℕ) → x ≡ getD r i 0 * f + c → i < length r → Multiplied r
+      → take (i + 1) (set r i (x % 256)) ++ product f (x / 256) (drop (i + 1) (set r i (x % 256))) ≡ p
   unfolding product
-  product-next r h e =
-      let d : ℕ = (getD r i 0 * f + c) % 256 in
-      let k : ℕ = (getD r i 0 * f + c) / 256 in
+  product-next r x y h e =
       let n : drop i r ≡ getD r i 0 ∷ drop (suc i) r = drop-cons r i 0 h in
-      rw (add-one i, take-suc-set r i d h, drop-set-lt (suc i) r i d (omega arith), append-snoc (take i r) d (product f k (drop (suc i) r)))
+      let d : ℕ = x % 256 in
+      let k : ℕ = x / 256 in
+      rw (add-one i, take-suc-set r i d h, drop-set-lt (suc i) r i d (omega arith), append-snoc (take i r) d (product f k (drop (suc i) r)), y)
       (ap (λ (l : List ℕ). take i r ++ product f c l) (sym n) ∙ e)
 
-  pub product-end : (r : List ℕ) → length r ≤ i → Multiplied r → r ≡ product f 0 a
+  pub product-end : (r : List ℕ) → length r ≤ i → Multiplied r → r ≡ p
   unfolding product
   product-end r h e = sym (ap₂ (λ x y. x ++ product f c y) (take-all i r h) (drop-of-length-le r {i = i} h) ∙ append-nil r) ∙ e
 

@@ -1,10 +1,14 @@
--- Numbers of many bytes. Assumes nothing.
+-- Numbers of at most 19 digits, and numbers of many bytes. Assumes nothing.
 use mathlib.Core.Path.{_≡_}
 use Prim.Native.Nat.{ℕ, _+_, _*_, _^_, _<_, _≤_}
 use mathlib.Core.List.{List, [], _∷_}
 use mathlib.Core.Bool.{false}
 use lib.ListN.{length}
 use lib.Ieee.{binary64, round, toBits}
+
+-- a number below this has at most 19 digits, and fits in a word
+abbrev pub digitLimit : ℕ
+digitLimit = 10 ^ 19
 
 -- the number that bytes stand for, the lowest first
 unfoldable pub valueOf : List ℕ → ℕ

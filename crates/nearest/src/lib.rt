@@ -1,4 +1,5 @@
-// The f64 nearest to m × 10^k or m / 10^k: by one operation on floats for a small k, and else by exact arithmetic on numbers of 288 bytes.
+// The f64 nearest to m × 10^k or m / 10^k, of an m of at most 19 digits: by one operation on floats where m and 10^k are exact as floats,
+// and else by exact arithmetic on numbers of 288 bytes.
 ghost use mathlib.Core.Path.{_≡_};
 ghost use mathlib.Core.Bool.{false, cond};
 ghost use Prim.Native.Nat.{_^_, _<_, _≤_, _*_, _/_, compare};
@@ -7,9 +8,23 @@ ghost use lib.ListN.{length};
 ghost use lib.Ieee.{binary64, nearest, units, round, toBits};
 ghost use lib.Ieee.Nearest.{closest};
 ghost use lib.Ieee.Exact.{HasValue};
-ghost use Rattle.nearest.specs.Large.{valueOf, limit, Large, Fraction, Scaled, IsRounded};
+ghost use Rattle.nearest.specs.Large.{digitLimit, valueOf, limit, Large, Fraction, Scaled, IsRounded};
 
 // ---- numbers of many bytes, the lowest byte first
+
+// m, whatever a was.
+fn put(a: &mut [u8], m: u64)
+    requires { ⌜ m < 256 ^ length (now a) ⌝ }
+    ensures { λ _. ⌜ valueOf (now (a .exit)) ≡ m ⌝ }
+{
+    let mut rest = m;
+    let mut i: usize = 0;
+    while i < a.len() {
+        a[i] = (rest % 256) as u8;
+        rest = rest / 256;
+        i += 1;
+    }
+}
 
 // a × factor.
 fn times(a: &mut [u8], factor: u64)
@@ -157,35 +172,33 @@ fn rounded(n: &mut [u8], v: &mut [u8], room: &mut [u8]) -> u64
     pattern(q, k)
 }
 
-// m × 10^up × 2^1074, of 1.
+// m × 10^up × 2^1074.
 fn numerator(n: &mut [u8], m: u64, up: usize)
-    requires { ⌜ (length (now n) ≡ 288) × (valueOf (now n) ≡ 1) × (m < 10 ^ 15) × (up ≤ 308) ⌝ }
+    requires { ⌜ (length (now n) ≡ 288) × (m < digitLimit) × (up ≤ 308) ⌝ }
     ensures { λ _. ⌜ valueOf (now (n .exit)) ≡ m * 10 ^ up * 2 ^ 1074 ⌝ }
 {
-    times(n, m);
+    put(n, m);
     raised(n, 10, up);
     raised(n, 64, 179);
 }
 
-// 10^down × 2^53, of 1.
+// 10^down × 2^53.
 fn denominator(v: &mut [u8], down: usize)
-    requires { ⌜ (length (now v) ≡ 288) × (valueOf (now v) ≡ 1) × (down ≤ 340) ⌝ }
+    requires { ⌜ (length (now v) ≡ 288) × (down ≤ 342) ⌝ }
     ensures { λ _. ⌜ valueOf (now (v .exit)) ≡ 10 ^ down * 2 ^ 53 ⌝ }
 {
+    put(v, 0x20_0000_0000_0000);
     raised(v, 10, down);
-    times(v, 0x20_0000_0000_0000);
 }
 
 // The bits of the f64 nearest to m × 10^up / 10^down.
 fn exact(m: u64, up: usize, down: usize) -> u64
-    requires { ⌜ (m < 10 ^ 15) × (up ≤ 308) × (down ≤ 340) ⌝ }
+    requires { ⌜ (m < digitLimit) × (up ≤ 308) × (down ≤ 342) ⌝ }
     ensures { λ r. ⌜ r ≡ toBits binary64 (round binary64 false (m * 10 ^ up) (10 ^ down)) ⌝ }
 {
     let mut n = [0u8; 288];
-    n[0] = 1;
     numerator(&mut n, m, up);
     let mut v = [0u8; 288];
-    v[0] = 1;
     denominator(&mut v, down);
     let mut room = [0u8; 288];
     rounded(&mut n, &mut v, &mut room)
@@ -230,7 +243,7 @@ fn power(k: usize) -> f64
 
 // m × 10^k: two floats that are exact, multiplied.
 fn small_times(m: u64, k: usize) -> f64
-    requires { ⌜ (m < 10 ^ 15) × (k ≤ 22) ⌝ }
+    requires { ⌜ (m < 2 ^ 53) × (k ≤ 22) ⌝ }
     ensures { λ r. ⌜ r ≡ round binary64 false (m * 10 ^ k) 1 ⌝ }
 {
     m as f64 * power(k)
@@ -238,7 +251,7 @@ fn small_times(m: u64, k: usize) -> f64
 
 // m / 10^k: two floats that are exact, divided.
 fn small_over(m: u64, k: usize) -> f64
-    requires { ⌜ (m < 10 ^ 15) × (k ≤ 22) ⌝ }
+    requires { ⌜ (m < 2 ^ 53) × (k ≤ 22) ⌝ }
     ensures { λ r. ⌜ r ≡ round binary64 false m (10 ^ k) ⌝ }
 {
     m as f64 / power(k)
@@ -248,10 +261,10 @@ fn small_over(m: u64, k: usize) -> f64
 
 // The f64 nearest to m × 10^up; infinite if that is too large.
 pub fn multiplied(m: u64, up: u64) -> f64
-    requires { ⌜ m < 10 ^ 15 ⌝ }
+    requires { ⌜ m < digitLimit ⌝ }
     ensures { λ r. ⌜ r ≡ round binary64 false (m * 10 ^ up) 1 ⌝ }
 {
-    if up <= 22 {
+    if m < 0x20_0000_0000_0000 && up <= 22 {
         return small_times(m, up as usize);
     }
     if m == 0 {
@@ -265,13 +278,13 @@ pub fn multiplied(m: u64, up: u64) -> f64
 
 // The f64 nearest to m / 10^down.
 pub fn divided(m: u64, down: u64) -> f64
-    requires { ⌜ m < 10 ^ 15 ⌝ }
+    requires { ⌜ m < digitLimit ⌝ }
     ensures { λ r. ⌜ r ≡ round binary64 false m (10 ^ down) ⌝ }
 {
-    if down <= 22 {
+    if m < 0x20_0000_0000_0000 && down <= 22 {
         return small_over(m, down as usize);
     }
-    if 340 < down {
+    if 342 < down {
         return 0.0;
     }
     words::float_of(exact(m, 0, down as usize))

@@ -1,5 +1,9 @@
 // The arguments of run_circuit.
 ghost use Prim.Native.Nat.{_+_, _<_, _≤_};
+ghost use mathlib.Core.Path.{_≡_};
+ghost use lib.ListN.{length};
+ghost use Rattle.io.specs.Counts.{Counts};
+ghost use Rattle.options.specs.Arguments.{countOf, noCount, boundOf, noBound};
 
 // What is printed.
 pub enum Output {
@@ -10,10 +14,13 @@ pub enum Output {
 
 // What an argument is.
 enum Kind {
-    // A name that a value follows.
+    // A name that a value follows; one that has its value behind `=`.
     Valued,
+    Joined,
     // A name alone.
     Flag,
+    // What follows is no option.
+    End,
     File,
     Unknown,
 }
@@ -27,38 +34,69 @@ fn begins_with_dash(argument: &[u8]) -> bool {
     false
 }
 
-fn is_valued(argument: &[u8]) -> bool {
-    if check::same(argument, b"--qubits") {
+fn is_valued(name: &[u8]) -> bool {
+    if check::same(name, b"--qubits") {
         return true;
     }
-    if check::same(argument, b"--threshold") {
+    if check::same(name, b"--threshold") {
         return true;
     }
-    if check::same(argument, b"--cutoff") {
+    if check::same(name, b"--cutoff") {
         return true;
     }
-    if check::same(argument, b"--capacity") {
+    if check::same(name, b"--capacity") {
         return true;
     }
-    check::same(argument, b"--output")
+    if check::same(name, b"--max-lost") {
+        return true;
+    }
+    if check::same(name, b"--tmpdir") {
+        return true;
+    }
+    if check::same(name, b"--report") {
+        return true;
+    }
+    check::same(name, b"--output")
 }
 
-fn is_flag(argument: &[u8]) -> bool {
-    if check::same(argument, b"--quiet") {
+fn is_flag(name: &[u8]) -> bool {
+    if check::same(name, b"--quiet") {
         return true;
     }
-    check::same(argument, b"--help")
+    if check::same(name, b"-h") {
+        return true;
+    }
+    if check::same(name, b"--version") {
+        return true;
+    }
+    check::same(name, b"--help")
+}
+
+// Where an argument's name ends: at the first `=`, or with it.
+fn name_end(argument: &[u8]) -> usize
+    ensures { λ r. ⌜ r ≤ length (now (argument .entry)) ⌝ }
+{
+    bytes::scan::find(argument, 0, argument.len(), b'=')
 }
 
 fn kind_of(argument: &[u8]) -> Kind {
     if !begins_with_dash(argument) {
         return Kind::File;
     }
-    if is_valued(argument) {
-        return Kind::Valued;
+    if check::same(argument, b"--") {
+        return Kind::End;
     }
     if is_flag(argument) {
         return Kind::Flag;
+    }
+    if is_valued(argument) {
+        return Kind::Valued;
+    }
+    let end = name_end(argument);
+    if end < argument.len() {
+        if is_valued(&argument[0..end]) {
+            return Kind::Joined;
+        }
     }
     Kind::Unknown
 }
@@ -73,13 +111,12 @@ fn kind_at(i: usize) -> Kind {
     kind_of(&argument[..n])
 }
 
-fn is_at(i: usize, name: &[u8]) -> bool {
-    let mut argument = io::buffer();
-    let n = os::arg(i, &mut argument);
-    if os::errno() != 0 {
-        return false;
+fn is_end(i: usize) -> bool {
+    let kind = kind_at(i);
+    match kind {
+        Kind::End => true,
+        _ => false,
     }
-    check::same(&argument[..n], name)
 }
 
 // After argument i and its value, if it has one.
@@ -105,26 +142,74 @@ fn arguments() -> usize
     65536
 }
 
-// i, if that argument has the name.
-fn place_at(i: usize, name: &[u8], place: usize) -> usize
-    requires { ⌜ (i ≤ 65536) × (place ≤ 65536) ⌝ }
-    ensures { λ r. ⌜ r ≤ 65536 ⌝ }
+// ---- the place of an option
+
+// Where an option's value stands: in which argument, 0 if the option is not given, and from where on in it.
+pub struct Place {
+    pub argument: usize,
+    pub from: usize,
+}
+
+fn nowhere() -> Place
+    ensures { λ r. ⌜ r .argument ≤ 65536 ⌝ }
 {
-    if is_at(i, name) {
-        return i;
+    Place {
+        argument: 0,
+        from: 0,
+    }
+}
+
+// The value of this name in argument i, or after it.
+fn value_in(i: usize, argument: &[u8], name: &[u8]) -> Place
+    requires { ⌜ i < 65536 ⌝ }
+    ensures { λ r. ⌜ r .argument ≤ 65536 ⌝ }
+{
+    if check::same(argument, name) {
+        return Place {
+            argument: i + 1,
+            from: 0,
+        };
+    }
+    let end = name_end(argument);
+    if end < argument.len() {
+        if check::same(&argument[0..end], name) {
+            return Place {
+                argument: i,
+                from: end + 1,
+            };
+        }
+    }
+    nowhere()
+}
+
+fn value_at(i: usize, name: &[u8], before: Place) -> Place
+    requires { ⌜ (i < 65536) × (before .argument ≤ 65536) ⌝ }
+    ensures { λ r. ⌜ r .argument ≤ 65536 ⌝ }
+{
+    let mut argument = io::buffer();
+    let n = os::arg(i, &mut argument);
+    if os::errno() != 0 {
+        return before;
+    }
+    let place = value_in(i, &argument[..n], name);
+    if place.argument == 0 {
+        return before;
     }
     place
 }
 
-// The last argument of this name, 0 if there is none.
-fn place_of(name: &[u8]) -> usize
-    ensures { λ r. ⌜ r ≤ 65536 ⌝ }
+// The value of the last option of this name.
+pub fn place_of(name: &[u8]) -> Place
+    ensures { λ r. ⌜ r .argument ≤ 65536 ⌝ }
 {
     let n = arguments();
-    let mut place = 0;
+    let mut place = nowhere();
     let mut i: usize = 1;
     while i < n {
-        place = place_at(i, name, place);
+        if is_end(i) {
+            return place;
+        }
+        place = value_at(i, name, place);
         i = after(i);
     }
     place
@@ -135,23 +220,21 @@ fn place_of(name: &[u8]) -> usize
 fn say_argument(i: usize) {
     let mut argument = io::buffer();
     let n = os::arg(i, &mut argument);
+    rows::say(b"run_circuit: ");
     rows::say_word(&argument, 0, n);
 }
 
 fn say_unknown(i: usize) {
-    rows::say(b"run_circuit: ");
     say_argument(i);
     rows::say(b": there is no such option; run_circuit --help lists what there is\n");
 }
 
 fn say_missing(i: usize) {
-    rows::say(b"run_circuit: ");
     say_argument(i);
     rows::say(b": a value was expected after it\n");
 }
 
 fn say_second_file(i: usize) {
-    rows::say(b"run_circuit: ");
     say_argument(i);
     rows::say(b": one file was expected, and this is the second\n");
 }
@@ -162,6 +245,18 @@ pub struct File {
     pub place: usize,
 }
 
+// Argument i is a file.
+fn file_at(i: usize, place: usize) -> File
+    requires { ⌜ (i < 65536) × (place ≤ 65536) ⌝ }
+    ensures { λ r. ⌜ r .place ≤ 65536 ⌝ }
+{
+    if place == 0 {
+        return File { ok: true, place: i };
+    }
+    say_second_file(i);
+    File { ok: false, place }
+}
+
 // Argument i of n, after those before it.
 fn looked_at(i: usize, n: usize, place: usize) -> File
     requires { ⌜ (i < 65536) × (place ≤ 65536) ⌝ }
@@ -169,7 +264,6 @@ fn looked_at(i: usize, n: usize, place: usize) -> File
 {
     let kind = kind_at(i);
     match kind {
-        Kind::Flag => File { ok: true, place },
         Kind::Unknown => {
             say_unknown(i);
             File { ok: false, place }
@@ -181,14 +275,26 @@ fn looked_at(i: usize, n: usize, place: usize) -> File
             say_missing(i);
             File { ok: false, place }
         }
-        Kind::File => {
-            if place == 0 {
-                return File { ok: true, place: i };
-            }
-            say_second_file(i);
-            File { ok: false, place }
-        }
+        Kind::File => file_at(i, place),
+        _ => File { ok: true, place },
     }
+}
+
+// The arguments from one on, which are no options.
+fn plain_files(from: usize, n: usize, before: File) -> File
+    requires { ⌜ (from ≤ 65536) × (n ≤ 65536) × (before .place ≤ 65536) ⌝ }
+    ensures { λ r. ⌜ r .place ≤ 65536 ⌝ }
+{
+    let mut f = before;
+    let mut i = from;
+    while i < n {
+        f = file_at(i, f.place);
+        if !f.ok {
+            return f;
+        }
+        i += 1;
+    }
+    f
 }
 
 // All arguments looked at.
@@ -204,6 +310,9 @@ pub fn files() -> File
             return f;
         }
         place = f.place;
+        if is_end(i) {
+            return plain_files(i + 1, n, f);
+        }
         i = after(i);
     }
     File { ok: true, place }
@@ -212,7 +321,33 @@ pub fn files() -> File
 // ---- their values
 
 pub fn is_given(name: &[u8]) -> bool {
-    place_of(name) != 0
+    let place = place_of(name);
+    place.argument != 0
+}
+
+// The bytes from one place of a buffer to another, moved to its start; how many they are.
+fn moved_down(buffer: &mut [u8], from: usize, to: usize) -> usize
+    ensures { λ r. ⌜ Counts r (now (buffer .exit)) ⌝ }
+{
+    let mut i: usize = 0;
+    let mut j = from;
+    while j < to {
+        if buffer.len() <= j {
+            return i;
+        }
+        buffer[i] = buffer[j];
+        i += 1;
+        j += 1;
+    }
+    i
+}
+
+// An option's value, put at the start of a buffer; how many bytes it has.
+pub fn value_of(place: Place, buffer: &mut [u8]) -> usize
+    ensures { λ r. ⌜ Counts r (now (buffer .exit)) ⌝ }
+{
+    let n = os::arg(place.argument, buffer);
+    moved_down(buffer, place.from, n)
 }
 
 // The number of an option, or what it is without the option; `ok`: it is one of those that are allowed, else it is said what is wrong.
@@ -231,41 +366,57 @@ fn say_bad(name: &[u8], value: &[u8], expected: &[u8]) {
     rows::say(b" was expected\n");
 }
 
-// A whole number from 1 to `most`, and nothing else.
-fn count_of(value: &[u8], most: usize) -> Count
-    ensures { λ r. ⌜ r .value ≤ most ⌝ }
+fn no_count() -> Count
+    ensures { λ r. ⌜ r ≡ noCount ⌝ }
 {
-    let w = decimal::whole(value, 0);
-    if w.status == 0 {
-        if w.end == value.len() {
-            let v = w.value as usize;
-            if 1 <= v {
-                if v <= most {
-                    return Count { ok: true, value: v };
-                }
-            }
-        }
-    }
     Count {
         ok: false,
         value: 0,
     }
 }
 
-pub fn count_option(name: &[u8], most: usize, without: usize, expected: &[u8]) -> Count
+// A whole number from `least` to `most`, and nothing else.
+fn count_of(value: &[u8], least: usize, most: usize) -> Count
+    ensures { λ r. ⌜ r ≡ countOf least most (now (value .entry)) ⌝ }
+    ensures { λ r. ⌜ r .value ≤ most ⌝ }
+{
+    let w = decimal::whole(value, 0);
+    let v = w.value as usize;
+    if w.status != 0 {
+        return no_count();
+    }
+    if w.end != value.len() {
+        return no_count();
+    }
+    if v < least {
+        return no_count();
+    }
+    if most < v {
+        return no_count();
+    }
+    Count { ok: true, value: v }
+}
+
+pub fn count_option(
+    name: &[u8],
+    least: usize,
+    most: usize,
+    without: usize,
+    expected: &[u8],
+) -> Count
     requires { ⌜ without ≤ most ⌝ }
     ensures { λ r. ⌜ r .value ≤ most ⌝ }
 {
-    let i = place_of(name);
-    if i == 0 {
+    let place = place_of(name);
+    if place.argument == 0 {
         return Count {
             ok: true,
             value: without,
         };
     }
     let mut value = io::buffer();
-    let n = os::arg(i + 1, &mut value);
-    let c = count_of(&value[..n], most);
+    let n = value_of(place, &mut value);
+    let c = count_of(&value[..n], least, most);
     if !c.ok {
         say_bad(name, &value[..n], expected);
     }
@@ -278,40 +429,51 @@ pub struct Bound {
     pub value: f64,
 }
 
-fn bound_of(value: &[u8]) -> Bound {
-    let d = decimal::decimal(value, 0);
-    if d.status == 0 {
-        if d.end == value.len() {
-            if 0.0 <= d.value {
-                return Bound {
-                    ok: true,
-                    value: d.value,
-                };
-            }
-        }
-    }
+fn no_bound() -> Bound
+    ensures { λ r. ⌜ r ≡ noBound ⌝ }
+{
     Bound {
         ok: false,
         value: 0.0,
     }
 }
 
+// A decimal number of 0 or more, and nothing else.
+fn bound_of(value: &[u8]) -> Bound
+    ensures { λ r. ⌜ r ≡ boundOf (now (value .entry)) ⌝ }
+{
+    let d = decimal::decimal(value, 0);
+    if d.status != 0 {
+        return no_bound();
+    }
+    if d.end != value.len() {
+        return no_bound();
+    }
+    if 0.0 <= d.value {
+        return Bound {
+            ok: true,
+            value: d.value,
+        };
+    }
+    no_bound()
+}
+
 pub fn bound_option(name: &[u8], without: f64) -> Bound {
-    let i = place_of(name);
-    if i == 0 {
+    let place = place_of(name);
+    if place.argument == 0 {
         return Bound {
             ok: true,
             value: without,
         };
     }
     let mut value = io::buffer();
-    let n = os::arg(i + 1, &mut value);
+    let n = value_of(place, &mut value);
     let b = bound_of(&value[..n]);
     if !b.ok {
         say_bad(
             name,
             &value[..n],
-            b"a decimal number of 0 or more, of at most 15 digits,",
+            b"a decimal number of 0 or more, of at most 19 digits,",
         );
     }
     b
@@ -349,15 +511,15 @@ fn choice_of(value: &[u8]) -> Choice {
 }
 
 pub fn output_option() -> Choice {
-    let i = place_of(b"--output");
-    if i == 0 {
+    let place = place_of(b"--output");
+    if place.argument == 0 {
         return Choice {
             ok: true,
             output: Output::Sheet,
         };
     }
     let mut value = io::buffer();
-    let n = os::arg(i + 1, &mut value);
+    let n = value_of(place, &mut value);
     let c = choice_of(&value[..n]);
     if !c.ok {
         say_bad(b"--output", &value[..n], b"sheet, table or trace");

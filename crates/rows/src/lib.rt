@@ -5,6 +5,7 @@ mod said;
 
 pub use floats::put_float;
 pub use said::say;
+pub use said::say_float;
 pub use said::say_number;
 pub use said::say_word;
 ghost use Prim.Native.Nat.{_≤_};
@@ -100,6 +101,10 @@ pub fn write(fd: i32, row: &mut [u8; 256], end: usize) -> bool {
     if 0 < end {
         put_byte(row, end - 1, b'\n');
     }
+    write_up_to(fd, row, end)
+}
+
+fn write_up_to(fd: i32, row: &[u8; 256], end: usize) -> bool {
     write_bytes(fd, row, end)
 }
 

@@ -10,6 +10,15 @@ pub fn say_number(v: u64) {
     io::print_decimal(STDERR_FILENO, v);
 }
 
+// A float as the table shows it, without what fills its column.
+pub fn say_float(x: f64) {
+    let mut row = crate::row();
+    let end = crate::put_float(&mut row, 0, x);
+    if 0 < end {
+        crate::write_up_to(STDERR_FILENO, &row, end - 1);
+    }
+}
+
 // A byte as it is shown: those that do not print are question marks.
 fn shown(b: u8) -> u8 {
     if b < 32 {

@@ -1,180 +1,95 @@
 // Runs a circuit, in a subset of Stim's circuit language, and prints the weight sheet, the sampling table or a trace.
+mod descriptors;
 mod help;
 mod outputs;
-mod tell;
+mod passes;
 
-use model::Header;
-use model::Size;
-use options::Output;
-use second_pass::Wanted;
+use passes::Setup;
 
-// What the options say.
-struct Setup {
-    qubits: usize,
-    capacity: usize,
-    threshold: f64,
-    cutoff: f64,
-    output: Output,
-    quiet: bool,
+// How a run ends.
+enum Status {
+    // Everything that was asked for is written.
+    Done,
+    // The circuit is bad, a call was refused, or something could not be read or written. It was said what.
+    Failed,
+    // The arguments are wrong.
+    Usage,
 }
 
-fn is_trace(output: Output) -> bool {
-    match output {
-        Output::Trace => true,
-        _ => false,
+fn status_of(done: bool) -> Status {
+    if done {
+        return Status::Done;
     }
+    Status::Failed
 }
 
-// The sum's last state, printed.
-fn print(output: Output, h: Header, store: &[u64]) -> bool {
-    match output {
-        Output::Sheet => outputs::write_sheet(h, store),
-        Output::Table => outputs::write_table(h, store),
-        Output::Trace => true,
-    }
-}
+// ---- the circuit
 
-// The circuit run from a fresh sum on, in a store of the right length.
-fn run_from(
-    fd: i32,
-    name: &[u8],
-    bytes: &mut [u8],
-    store: &mut [u64],
-    scratch: &mut [u64],
-    h: Header,
-    s: Setup,
-) {
-    let size = h.size;
-    let trace = is_trace(s.output);
-    if trace {
-        second_pass::write_head();
-    }
-    let wanted = Wanted {
-        trace,
-        losses: trace || !s.quiet,
-    };
-    let r = second_pass::run_all(fd, bytes, store, scratch, h, wanted);
-    let w = r.walk;
-    if !walk::is_done(w) {
-        tell::tell(name, bytes, w, size.capacity);
-        return;
-    }
-    if print(s.output, r.header, store) {
-        if !s.quiet {
-            outputs::say_summary(r);
-        }
-    }
-}
-
-// How many qubits there are: as many as the option says, or the circuit needs; one at least.
-fn qubits_of(given: usize, needed: usize) -> usize {
-    if given != 0 {
-        return given;
-    }
-    if needed == 0 {
-        return 1;
-    }
-    needed
-}
-
-// Words of the largest store: 256 entries of 64 qubits, 8 + 6 * 64 words each.
-fn store_room() -> [u64; 100_352] {
-    [0u64; 100_352]
-}
-
-// From a fresh sum on, in a store of the length that its size has.
-fn run_fresh(
-    fd: i32,
-    name: &[u8],
-    bytes: &mut [u8],
-    store: &mut [u64],
-    scratch: &mut [u64],
-    n: usize,
-    s: Setup,
-) {
-    let size = Size {
-        n,
-        k: 1,
-        capacity: s.capacity,
-    };
-    let a = sum::fresh(size, s.threshold, s.cutoff, store);
-    if a.number != 0 {
-        outputs::tell_refused(b"the fresh sum", a.number, s.capacity);
-        return;
-    }
-    run_from(fd, name, bytes, store, scratch, a.header, s);
-}
-
-// .. and a copy of it, for what is lost.
-fn run_in_stores(fd: i32, name: &[u8], bytes: &mut [u8], n: usize, s: Setup) {
-    let mut store = store_room();
-    let mut scratch = store_room();
-    let end = second_pass::words(n, s.capacity);
-    run_fresh(
-        fd,
-        name,
-        bytes,
-        &mut store[0..end],
-        &mut scratch[0..end],
-        n,
-        s,
-    );
-}
-
-// Both passes.
-fn run_circuit(fd: i32, name: &[u8], bytes: &mut [u8], s: Setup) {
-    let mut limit = 64;
-    if s.qubits != 0 {
-        limit = s.qubits;
-    }
-    let c = first_pass::check(fd, bytes, limit);
-    let w = c.walk;
-    if !walk::is_done(w) {
-        tell::tell(name, bytes, w, s.capacity);
-        return;
-    }
-    run_in_stores(fd, name, bytes, qubits_of(s.qubits, c.qubits), s);
-}
-
-fn run_input(s: Setup) {
+// What the descriptor gives is copied to a folder and run.
+fn run_in(from: i32, name: &[u8], folder: &[u8], s: Setup) -> bool {
     let mut bytes = io::large_buffer();
-    let fd = input::standard_input(&mut bytes);
-    if 0 <= fd {
-        run_circuit(fd, b"standard input", &mut bytes, s);
+    let source = input::take(from, name, folder, &mut bytes);
+    if !source.ok {
+        return false;
     }
+    passes::run(source, name, &mut bytes, s)
 }
 
-fn run_file(name: &[u8], s: Setup) {
+// .. to the folder that an option names, or to /tmp.
+fn run_from(from: i32, name: &[u8], s: Setup) -> Status {
+    let place = options::place_of(b"--tmpdir");
+    if place.argument == 0 {
+        return status_of(run_in(from, name, b"/tmp", s));
+    }
+    let mut folder = io::buffer();
+    let n = options::value_of(place, &mut folder);
+    if n == 0 {
+        rows::say(b"run_circuit: --tmpdir: the name of a folder was expected\n");
+        return Status::Usage;
+    }
+    status_of(run_in(from, name, &folder[..n], s))
+}
+
+fn run_input(s: Setup) -> Status {
+    run_from(libc::STDIN_FILENO, b"standard input", s)
+}
+
+fn run_file(name: &[u8], s: Setup) -> Status {
     let fd = os::open_read(name);
     if fd < 0 {
         os::fail(name);
-        return;
+        return Status::Failed;
     }
-    let mut bytes = io::large_buffer();
-    run_circuit(fd, name, &mut bytes, s);
-    libc::close(fd);
+    run_from(fd, name, s)
 }
 
 // Argument `place` names the file; 0 and `-` are standard input.
-fn run_named(place: usize, s: Setup) {
+fn run_named(place: usize, s: Setup) -> Status {
     let mut name = io::buffer();
     let n = os::arg(place, &mut name);
     if place == 0 {
-        run_input(s);
-        return;
+        return run_input(s);
     }
     if check::same(&name[..n], b"-") {
-        run_input(s);
-        return;
+        return run_input(s);
     }
-    run_file(&name[..n], s);
+    run_file(&name[..n], s)
 }
 
-fn run_options(place: usize) {
-    let qubits = options::count_option(b"--qubits", 64, 0, b"a whole number from 1 to 64");
-    let capacity = options::count_option(b"--capacity", 256, 256, b"a whole number from 1 to 256");
+// ---- the arguments
+
+fn run_options(place: usize) -> Status {
+    let qubits = options::count_option(b"--qubits", 1, 64, 0, b"a whole number from 1 to 64");
+    let capacity = options::count_option(
+        b"--capacity",
+        1,
+        256,
+        256,
+        b"a whole number from 1 to 256",
+    );
     let threshold = options::bound_option(b"--threshold", 0.00000001);
     let cutoff = options::bound_option(b"--cutoff", 0.0);
+    let most_lost = options::bound_option(b"--max-lost", 2.0);
     let choice = options::output_option();
     let output = choice.output;
     let setup = Setup {
@@ -182,22 +97,58 @@ fn run_options(place: usize) {
         capacity: capacity.value,
         threshold: threshold.value,
         cutoff: cutoff.value,
+        most_lost: most_lost.value,
         output,
         quiet: options::is_given(b"--quiet"),
     };
-    if qubits.ok && capacity.ok && threshold.ok && cutoff.ok && choice.ok {
-        run_named(place, setup);
+    if qubits.ok && capacity.ok && threshold.ok && cutoff.ok && most_lost.ok && choice.ok {
+        return run_named(place, setup);
+    }
+    Status::Usage
+}
+
+fn run_arguments() -> Status {
+    let f = options::files();
+    if !f.ok {
+        return Status::Usage;
+    }
+    if options::is_given(b"--help") || options::is_given(b"-h") {
+        return status_of(outputs::is_written(help::write()));
+    }
+    if options::is_given(b"--version") {
+        return status_of(outputs::is_written(help::write_version()));
+    }
+    run_options(f.place)
+}
+
+// ---- the report
+
+// A status, written to the descriptor that an option names, since a program in Rattle cannot end with one.
+fn report(status: Status) {
+    let to = options::count_option(b"--report", 3, 255, 0, b"a descriptor from 3 to 255");
+    let fd = to.value as i32;
+    if fd < 3 {
+        return;
+    }
+    let written = match status {
+        Status::Done => io::write_all(fd, b"0\n"),
+        Status::Failed => io::write_all(fd, b"1\n"),
+        Status::Usage => io::write_all(fd, b"2\n"),
+    };
+    if !written {
+        os::fail(b"run_circuit: --report");
     }
 }
 
 fn main() {
-    let f = options::files();
-    if !f.ok {
+    if !descriptors::are_open() {
+        report(Status::Failed);
         return;
     }
-    if options::is_given(b"--help") {
-        help::write();
+    let status = run_arguments();
+    if let Status::Done = status {
+        report(status_of(outputs::is_written(descriptors::close_output())));
         return;
     }
-    run_options(f.place);
+    report(status);
 }

@@ -1,21 +1,21 @@
 // What is printed at the end of a run: the sheet or the table, and the summary.
-use crate::tell;
 use libc::STDERR_FILENO;
 use libc::STDOUT_FILENO;
 use model::Header;
 use second_pass::Run;
 
-pub fn tell_refused(what: &[u8], number: u64, capacity: usize) {
+pub fn tell_refused(what: &[u8], number: u64) {
     rows::say(b"run_circuit: ");
     rows::say(what);
     rows::say(b" was refused with ");
     rows::say_number(number);
     rows::say(b": ");
-    tell::tell_number(number, capacity);
+    messages::tell_number(number);
     rows::say(b"\n");
 }
 
-fn is_written(written: bool) -> bool {
+// Whether something was written to standard output; else it is said why not.
+pub fn is_written(written: bool) -> bool {
     if !written {
         os::fail(b"run_circuit: standard output");
     }
@@ -33,10 +33,9 @@ fn sheet_room() -> [u8; 2_130_047] {
 // Whether it was written.
 pub fn write_sheet(h: Header, store: &[u64]) -> bool {
     let mut out = sheet_room();
-    let size = h.size;
     let a = sheet::write_sheet(h, store, &mut out);
     if a.number != 0 {
-        tell_refused(b"the sheet", a.number, size.capacity);
+        tell_refused(b"the sheet", a.number);
         return false;
     }
     let end = a.length;
@@ -58,7 +57,7 @@ fn word_at(words: &[u64], at: usize) -> u64 {
 // The weight bits of the entry at a place.
 fn weight_at(store: &[u64], h: Header, place: u64) -> u64 {
     let size = h.size;
-    word_at(store, second_pass::words(size.n, place as usize))
+    word_at(store, calls::words(size.n, place as usize))
 }
 
 fn write_entry(place: u64, weight: u64, total: u64) -> bool {
@@ -88,46 +87,56 @@ fn write_entries(h: Header, store: &[u64], table: &[u64], count: usize) -> bool 
 
 pub fn write_table(h: Header, store: &[u64]) -> bool {
     let mut table = [0u64; 512];
-    let size = h.size;
     let a = table::table(h, store, &mut table);
     if a.number != 0 {
-        tell_refused(b"the table", a.number, size.capacity);
+        tell_refused(b"the table", a.number);
         return false;
     }
-    io::write_all(
+    let head = io::write_all(
         STDOUT_FILENO,
         b"# place weight         running_total  weight_bits      running_total_bits\n",
     );
-    is_written(write_entries(h, store, &table, a.length / 2))
+    is_written(head && write_entries(h, store, &table, a.length / 2))
 }
 
-// ---- the summary
+// ---- the summary: each of these answers whether it was written
 
-fn say_count(name: &[u8], v: u64) {
+// A sum without entries has lost everything, and no other sign of it.
+pub fn say_if_empty(h: Header) -> bool {
+    if h.count != 0 {
+        return true;
+    }
+    io::write_all(
+        STDERR_FILENO,
+        b"run_circuit: all of the initial weight was lost: no weight was above the cutoff, and the sum has no entry\n",
+    )
+}
+
+fn say_count(name: &[u8], v: u64) -> bool {
     let mut row = rows::row();
     let at = rows::put_left(&mut row, 0, name, 10);
     let end = rows::put_digits(&mut row, at, v);
-    rows::write(STDERR_FILENO, &mut row, rows::after(at, end, 1));
+    rows::write(STDERR_FILENO, &mut row, rows::after(at, end, 1))
 }
 
-fn say_lost(x: f64) {
+fn say_lost(x: f64) -> bool {
     let mut row = rows::row();
     let at = rows::put_left(&mut row, 0, b"lost", 10);
     let text = rows::put_float(&mut row, at, x);
     let end = rows::put_left(&mut row, text, b"of the initial weight", 21);
-    rows::write(STDERR_FILENO, &mut row, end);
+    rows::write(STDERR_FILENO, &mut row, end)
 }
 
-pub fn say_summary(r: Run) {
+pub fn say_summary(r: Run) -> bool {
     let h = r.header;
     let size = h.size;
     let t = r.totals;
-    say_count(b"qubits", size.n as u64);
-    say_count(b"calls", t.calls);
-    say_count(b"entries", h.count as u64);
-    say_count(b"merged", t.merged);
-    say_count(b"stored", t.stored);
-    say_count(b"dropped", t.dropped);
-    say_count(b"compared", t.compared);
-    say_lost(t.lost);
+    say_count(b"qubits", size.n as u64)
+        && say_count(b"calls", t.calls)
+        && say_count(b"entries", h.count as u64)
+        && say_count(b"merged", t.merged)
+        && say_count(b"stored", t.stored)
+        && say_count(b"dropped", t.dropped)
+        && say_count(b"compared", t.compared)
+        && say_lost(t.lost)
 }

@@ -1,9 +1,11 @@
 // The second pass over a circuit: its lines are run.
-mod calls;
+mod blocks;
 mod second;
 mod trace;
 
-pub use calls::words;
+pub use blocks::Repetition;
+pub use blocks::STACK_WORDS;
+pub use blocks::repetition_of;
 pub use second::Run;
 pub use second::Wanted;
 pub use second::run_all;

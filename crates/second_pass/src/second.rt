@@ -1,5 +1,6 @@
 // The second pass: the lines are run. `}` goes back to the line after its REPEAT while repetitions are left.
-use crate::calls;
+use crate::blocks;
+use crate::blocks::STACK_WORDS;
 use crate::trace;
 use circuit::Act;
 use circuit::Item;
@@ -7,6 +8,7 @@ use circuit::Line;
 use circuit::Seen;
 use drops::Lost;
 use input::Found;
+use input::Source;
 use model::Answer;
 use model::Header;
 use walk::Outcome;
@@ -33,10 +35,11 @@ pub struct Run {
     pub totals: Totals,
 }
 
-// What is wanted besides the sum: a line for each call, the weight that is lost.
+// What is wanted besides the sum: a line for each call, the weight that is lost; and how much of it may be.
 pub struct Wanted {
     pub trace: bool,
     pub losses: bool,
+    pub most_lost: f64,
 }
 
 // ---- what a call came to
@@ -97,10 +100,11 @@ fn losses_of(
     if calls::has_lost(h, a) {
         let counts = a.counts;
         let total = calls::total(scratch, h);
+        let after = a.header;
         let here = calls::losses(h, scratch, act, rates, p, q);
         return Losses {
             here,
-            all: calls::lost_after(lost, here, total, 0 < counts.dropped),
+            all: calls::lost_after(lost, here, total, 0 < counts.dropped, after.count),
         };
     }
     Losses {
@@ -145,8 +149,16 @@ fn make(
     }
 }
 
+// The run after a call, which may have lost too much.
+fn judged(r: Run, l: Line, lost: f64, most: f64) -> Run {
+    if most < lost {
+        return ended(r, Outcome::TooMuchLost(lost), l.from, l.to);
+    }
+    r
+}
+
 // The run after a call.
-fn after_call(r: Run, l: Line, p: usize, q: usize, m: Made, written: bool) -> Run {
+fn after_call(r: Run, l: Line, p: usize, q: usize, m: Made, written: bool, most: f64) -> Run {
     let a = m.answer;
     let losses = m.losses;
     if a.number != 0 {
@@ -157,11 +169,12 @@ fn after_call(r: Run, l: Line, p: usize, q: usize, m: Made, written: bool) -> Ru
     }
     let walk = r.walk;
     let header = a.header;
-    Run {
+    let next = Run {
         walk,
         header,
         totals: added(r.totals, a, losses.all),
-    }
+    };
+    judged(next, l, losses.all, most)
 }
 
 // One call, on a qubit or a pair.
@@ -196,7 +209,7 @@ fn call(
     if wanted.trace {
         written = trace::write(walk.line, line, l, act, p, q, m.answer, losses.here);
     }
-    after_call(r, l, p, q, m, written)
+    after_call(r, l, p, q, m, written, wanted.most_lost)
 }
 
 // The calls of a line, target by target.
@@ -226,43 +239,11 @@ fn run_targets(
     }
 }
 
-// ---- blocks: of each that is open, the offset and the line where it begins, and how often it is still to be repeated
-
-fn open(stack: &mut [u64; 192], w: Walk, times: u64, from: usize, to: usize) -> Walk {
-    let depth = w.depth;
-    let window = w.window;
-    if depth < 64 {
-        if 0 < times {
-            stack[3 * depth] = window.next;
-            stack[3 * depth + 1] = w.line;
-            stack[3 * depth + 2] = times - 1;
-            return walk::at_depth(w, depth + 1);
-        }
-    }
-    walk::ended(w, Outcome::TooDeep, from, to)
-}
-
-fn close(stack: &mut [u64; 192], w: Walk, from: usize, to: usize) -> Walk {
-    let depth = w.depth;
-    if 0 < depth {
-        if depth <= 64 {
-            let top = 3 * (depth - 1);
-            let left = stack[top + 2];
-            if left == 0 {
-                return walk::at_depth(w, depth - 1);
-            }
-            stack[top + 2] = left - 1;
-            return walk::jumped(w, stack[top], stack[top + 1]);
-        }
-    }
-    walk::ended(w, Outcome::NoRepeat, from, to)
-}
-
 // ---- lines
 
 fn run_item(
     line: &[u8],
-    stack: &mut [u64; 192],
+    stack: &mut [u64; STACK_WORDS],
     store: &mut [u64],
     scratch: &mut [u64],
     r: Run,
@@ -270,19 +251,23 @@ fn run_item(
 ) -> Run {
     let l = circuit::parse(line);
     let item = l.item;
+    let totals = r.totals;
+    let made = totals.calls;
     match item {
         Item::Nothing => r,
         Item::Bad(fault) => ended(r, Outcome::Bad(fault), l.from, l.to),
         Item::Call(act) => run_targets(line, l, act, store, scratch, r, wanted),
-        Item::Repeat(times) => with_walk(r, open(stack, r.walk, times, l.from, l.to)),
-        Item::Close => with_walk(r, close(stack, r.walk, l.from, l.to)),
+        Item::Repeat(times) => {
+            with_walk(r, blocks::opened(stack, r.walk, times, made, l.from, l.to))
+        }
+        Item::Close => with_walk(r, blocks::closed(stack, r.walk, made, l.from, l.to)),
     }
 }
 
 // What the window has found.
 fn run_found(
     bytes: &[u8],
-    stack: &mut [u64; 192],
+    stack: &mut [u64; STACK_WORDS],
     store: &mut [u64],
     scratch: &mut [u64],
     r: Run,
@@ -300,26 +285,28 @@ fn run_found(
         Found::End => ended(r, Outcome::Done, 0, 0),
         Found::TooLong => ended(r, Outcome::TooLong, 0, 0),
         Found::Failed => ended(r, Outcome::Failed, 0, 0),
+        Found::Cut => ended(r, Outcome::Cut, 0, 0),
     }
 }
 
 // The next line.
 fn run_line(
-    fd: i32,
+    s: Source,
     bytes: &mut [u8],
-    stack: &mut [u64; 192],
+    stack: &mut [u64; STACK_WORDS],
     store: &mut [u64],
     scratch: &mut [u64],
     r: Run,
     wanted: Wanted,
 ) -> Run {
     let before = r.walk;
-    let window = input::next_line(fd, bytes, before.window);
+    let window = input::next_line(s, bytes, before.window);
     let next = with_walk(r, walk::moved(before, window));
     run_found(bytes, stack, store, scratch, next, wanted)
 }
 
-pub fn start(header: Header) -> Run {
+// A sum that is empty from the start has lost everything.
+fn start(header: Header) -> Run {
     Run {
         walk: walk::start(),
         header,
@@ -329,25 +316,25 @@ pub fn start(header: Header) -> Run {
             stored: 0,
             dropped: 0,
             compared: 0,
-            lost: 0.0,
+            lost: calls::lost_at_start(header.count),
         },
     }
 }
 
-// The whole circuit.
+// The whole circuit. `stack` has the blocks that are open where it ends.
 pub fn run_all(
-    fd: i32,
+    s: Source,
     bytes: &mut [u8],
+    stack: &mut [u64; STACK_WORDS],
     store: &mut [u64],
     scratch: &mut [u64],
     header: Header,
     wanted: Wanted,
 ) -> Run {
-    let mut stack = [0u64; 192];
     let mut r = start(header);
     let mut turns = u64::MAX;
     while turns > 0 {
-        r = run_line(fd, bytes, &mut stack, store, scratch, r, wanted);
+        r = run_line(s, bytes, stack, store, scratch, r, wanted);
         if !walk::is_going(r.walk) {
             return r;
         }

@@ -11,16 +11,21 @@ pub enum Outcome {
     Done,
     // A word of the line is at fault.
     Bad(Fault),
+    // Its rates are: number 4 would be given.
+    Rates,
     // The line has no end within the window.
     TooLong,
-    // It could not be read.
+    // It could not be read; its copy was cut.
     Failed,
+    Cut,
     // REPEAT in 64 others; `}` with no REPEAT; the REPEAT of this line without `}`.
     TooDeep,
     NoRepeat,
     Unclosed(u64),
     // A call on these qubits gave this number.
     Refused(u64, usize, usize),
+    // After a call more has been lost of the initial weight, this fraction of it, than is allowed.
+    TooMuchLost(f64),
     // A line of the trace could not be written.
     Unwritten,
 }
@@ -95,6 +100,11 @@ pub fn at_depth(w: Walk, depth: usize) -> Walk {
     }
 }
 
+// .. goes on after a bad line.
+pub fn resumed(w: Walk) -> Walk {
+    at_depth(w, w.depth)
+}
+
 // .. goes on at another offset, after this line.
 pub fn jumped(w: Walk, offset: u64, line: u64) -> Walk {
     Walk {
@@ -111,6 +121,18 @@ pub fn is_going(w: Walk) -> bool {
     let outcome = w.outcome;
     match outcome {
         Outcome::Going => true,
+        _ => false,
+    }
+}
+
+// It can go on past the line where it stands: the lines after it can still be looked at.
+pub fn can_go_on(w: Walk) -> bool {
+    let outcome = w.outcome;
+    match outcome {
+        Outcome::Bad(_) => true,
+        Outcome::Rates => true,
+        Outcome::TooDeep => true,
+        Outcome::NoRepeat => true,
         _ => false,
     }
 }

@@ -8,16 +8,10 @@ use Rattle.first_pass.proofs.check.Statement.{statement}
 use Rattle.first_pass.proofs.check.Tie as tie
 
 abbrev Inv-loop : tie.InvT-loop
-Inv-loop fd bytes₀ limit begun₀ c₀ turns₀ bytes begun c turns = length bytes ≡ length bytes₀
+Inv-loop s bytes₀ begun₀ limit c₀ turns₀ bytes begun c turns = length bytes ≡ length bytes₀
 
 abbrev μ-loop : tie.MeasureT-loop
-μ-loop fd bytes₀ limit begun₀ c₀ turns₀ bytes begun c turns = turns
-
-start-requires : tie.Need-start-requires Inv-loop μ-loop
-start-requires c κs = search needs
-
-with-requires : tie.Need-with-requires Inv-loop μ-loop
-with-requires c κs = search needs
+μ-loop s bytes₀ begun₀ limit c₀ turns₀ bytes begun c turns = turns
 
 loop-holds : tie.Need-loop-holds Inv-loop μ-loop
 loop-holds c = search needs
@@ -55,8 +49,6 @@ check-spec =
     (tie.spec
     Inv-loop
     μ-loop
-    start-requires
-    with-requires
     loop-holds
     check-line-requires
     is-going-requires

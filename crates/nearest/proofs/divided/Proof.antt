@@ -19,7 +19,7 @@ returns c = search needs
 returns-2 : tie.Need-returns-2
 returns-2 c =
     let s = c .before .before in
-    too-far-down (s .args .m) (s .args .down) (s .pre) (c .if2 .taken)
+    too-far-down (s .args .m) (s .args .down) (s .pre) (c .if3 .taken)
 
 exact-requires : tie.Need-exact-requires
 exact-requires c κs = search needs

@@ -11,27 +11,19 @@ use Rattle.nearest.proofs.Sizes.{numerator-limit, denominator-limit}
 use Rattle.nearest.proofs.exact.Statement.{statement}
 use Rattle.nearest.proofs.exact.Tie as tie
 
-array-write-n : tie.Need-array-write-n
-array-write-n c = search needs
-
 slice-aggregate-numerator : tie.Need-slice-aggregate-numerator
 slice-aggregate-numerator c = search needs
 
 numerator-requires : tie.Need-numerator-requires
-unfolding valueOf
 numerator-requires c κs =
     let s = c .before in
-    (refl, refl, s .pre .0, s .pre .1)
-
-array-write-v : tie.Need-array-write-v
-array-write-v c = search needs
+    (refl, s .pre .0, s .pre .1)
 
 slice-aggregate-denominator : tie.Need-slice-aggregate-denominator
 slice-aggregate-denominator c = search needs
 
 denominator-requires : tie.Need-denominator-requires
-unfolding valueOf
-denominator-requires c κs = (refl, refl, c .before .before .before .before .pre .2)
+denominator-requires c κs = (refl, c .before .before .before .before .pre .2)
 
 slice-aggregate-rounded : tie.Need-slice-aggregate-rounded
 slice-aggregate-rounded c = search needs
@@ -67,4 +59,15 @@ returns c =
     r .rounded .ensures .is (a .m * 10 ^ a .up) (10 ^ a .down) (ten-pos (a .down)) (n .numerator .ensures) (d .denominator .ensures)
 
 pub exact-spec : {M : Type 1} → statement M
-exact-spec = tie.close (tie.spec array-write-n slice-aggregate-numerator numerator-requires array-write-v slice-aggregate-denominator denominator-requires slice-aggregate-rounded slice-aggregate-rounded-2 slice-aggregate-rounded-3 rounded-requires returns)
+exact-spec =
+    tie.close
+    (tie.spec
+    slice-aggregate-numerator
+    numerator-requires
+    slice-aggregate-denominator
+    denominator-requires
+    slice-aggregate-rounded
+    slice-aggregate-rounded-2
+    slice-aggregate-rounded-3
+    rounded-requires
+    returns)

@@ -26,12 +26,12 @@ returns c = search needs
 returns-2 : tie.Need-returns-2
 returns-2 c =
     let a = c .before .before .args in
-    zero-rounded (a .m * 10 ^ a .up) 1 (ap (λ (z : ℕ). z * 10 ^ a .up) (c .if2 .taken) ∙ zero-mul (10 ^ a .up)) (omega arith)
+    zero-rounded (a .m * 10 ^ a .up) 1 (ap (λ (z : ℕ). z * 10 ^ a .up) (c .if3 .taken) ∙ zero-mul (10 ^ a .up)) (omega arith)
 
 returns-3 : tie.Need-returns-3
 returns-3 c =
     let a = c .before .before .before .args in
-    infinite ∙ sym (too-far-up (a .m) (a .up) (lt-of-le-ne (omega arith) (λ e. c .before .if2 .left (sym e))) (c .if3 .taken))
+    infinite ∙ sym (too-far-up (a .m) (a .up) (lt-of-le-ne (omega arith) (λ e. c .before .if3 .left (sym e))) (c .if4 .taken))
 
 exact-requires : tie.Need-exact-requires
 exact-requires c κs = search needs

@@ -2,16 +2,16 @@
 -- Assumes nothing.
 use mathlib.Core.Path.{_≡_, refl}
 use Prim.Native.Nat.{_*_, _-_, _≤_}
-use native.Mathlib.Nat.{mul-le-mul-right}
+use native.Mathlib.Nat.{add-zero, mul-le-mul-right}
 use native.Mathlib.Omega.{arith}
 use lib.ListN.{length, getD, length-set}
 use borrow.Author.Needs.{needs}
-use Rattle.nearest.proofs.Large.{Multiplied, product-next, product-end, product-whole}
+use Rattle.nearest.proofs.Large.{product, Multiplied, product-next, product-end, product-whole}
 use Rattle.nearest.proofs.times.Statement.{statement}
 use Rattle.nearest.proofs.times.Tie as tie
 
 abbrev Inv-loop : tie.InvT-loop
-Inv-loop a₀ factor carry₀ i₀ a carry i = (length a ≡ length a₀) × (carry ≤ factor) × Multiplied factor a₀ i carry a
+Inv-loop a₀ factor carry₀ i₀ a carry i = (length a ≡ length a₀) × (carry ≤ factor) × Multiplied factor (product factor 0 a₀) i carry a
 
 abbrev μ-loop : tie.MeasureT-loop
 μ-loop a₀ factor carry₀ i₀ a carry i = length a₀ - i
@@ -55,7 +55,7 @@ loop-again c =
     let l = c .before .before in (
       simp length-set (l .loop .inv .0),
       omega (arith, byte c),
-      product-next (l .before .args .factor) (l .before .args .a .now) (l .loop .i) (l .loop .carry) (l .loop .a) (c .before .loop-test .taken) (l .loop .inv .2),
+      product-next _ _ (l .loop .i) (l .loop .carry) (l .loop .a) _ refl (c .before .loop-test .taken) (l .loop .inv .2),
     )
 
 same-length : tie.Need-same-length Inv-loop μ-loop
@@ -65,7 +65,10 @@ returns : tie.Need-returns Inv-loop μ-loop
 returns c =
     let l = c .before in
     let a = l .before .args in
-    product-whole (a .factor) (a .a .now) (l .loop .a) (product-end (a .factor) (a .a .now) (l .loop .i) (l .loop .carry) (l .loop .a) (c .loop-test .left) (l .loop .inv .2)) (l .before .pre .1)
+    product-whole (a .factor) 0 _ (a .a .now) (l .loop .a)
+    (product-end (a .factor) _ (l .loop .i) (l .loop .carry) (l .loop .a) (c .loop-test .left) (l .loop .inv .2))
+    (add-zero _)
+    (l .before .pre .1)
 
 pub times-spec : {M : Type 1} → statement M
 times-spec = tie.close (tie.spec Inv-loop μ-loop loop-holds slice-read-x cast-x mul-x add-x cast-a slice-write-a add-i loop-less loop-again same-length returns)

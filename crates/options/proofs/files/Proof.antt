@@ -1,8 +1,5 @@
 -- `options::files` meets its contract. Assumes nothing.
-use mathlib.Core.Path.{_≡_}
-use Prim.Native.Nat.{ℕ, _+_, _-_, _*_, _≤_, _<_}
-use native.Mathlib.Omega.{arith}
-use lib.ListN.{length}
+use Prim.Native.Nat.{_-_, _≤_}
 use borrow.Author.Needs.{needs}
 use Rattle.options.proofs.files.Statement.{statement}
 use Rattle.options.proofs.files.Tie as tie
@@ -25,6 +22,18 @@ looked-at-requires c κs = search needs
 returns : tie.Need-returns Inv-loop μ-loop
 returns c = search needs
 
+is-end-requires : tie.Need-is-end-requires Inv-loop μ-loop
+is-end-requires c κs = search needs
+
+add-plain-files : tie.Need-add-plain-files Inv-loop μ-loop
+add-plain-files c = search needs
+
+plain-files-requires : tie.Need-plain-files-requires Inv-loop μ-loop
+plain-files-requires c κs = search needs
+
+returns-2 : tie.Need-returns-2 Inv-loop μ-loop
+returns-2 c = search needs
+
 after-requires : tie.Need-after-requires Inv-loop μ-loop
 after-requires c κs = search needs
 
@@ -34,8 +43,8 @@ loop-less c = search needs
 loop-again : tie.Need-loop-again Inv-loop μ-loop
 loop-again c = search needs
 
-returns-2 : tie.Need-returns-2 Inv-loop μ-loop
-returns-2 c = search needs
+returns-3 : tie.Need-returns-3 Inv-loop μ-loop
+returns-3 c = search needs
 
 pub files-spec : {M : Type 1} → statement M
 files-spec =
@@ -47,7 +56,11 @@ files-spec =
     loop-holds
     looked-at-requires
     returns
+    is-end-requires
+    add-plain-files
+    plain-files-requires
+    returns-2
     after-requires
     loop-less
     loop-again
-    returns-2)
+    returns-3)

@@ -8,10 +8,10 @@ use Rattle.second_pass.proofs.second.run_all.Statement.{statement}
 use Rattle.second_pass.proofs.second.run_all.Tie as tie
 
 abbrev Inv-loop : tie.InvT-loop
-Inv-loop fd bytes₀ store₀ scratch₀ wanted stack₀ r₀ turns₀ bytes store scratch stack r turns = (length bytes ≡ length bytes₀) × (length store ≡ length store₀) × (length scratch ≡ length scratch₀)
+Inv-loop s bytes₀ stack₀ store₀ scratch₀ wanted r₀ turns₀ bytes stack store scratch r turns = (length bytes ≡ length bytes₀) × (length store ≡ length store₀) × (length scratch ≡ length scratch₀)
 
 abbrev μ-loop : tie.MeasureT-loop
-μ-loop fd bytes₀ store₀ scratch₀ wanted stack₀ r₀ turns₀ bytes store scratch stack r turns = turns
+μ-loop s bytes₀ stack₀ store₀ scratch₀ wanted r₀ turns₀ bytes stack store scratch r turns = turns
 
 start-requires : tie.Need-start-requires Inv-loop μ-loop
 start-requires c κs = search needs

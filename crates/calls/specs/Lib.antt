@@ -1,0 +1,4 @@
+pub mod Instructions
+pub mod Stores
+pub mod Loss
+pub mod Outgrown
