@@ -193,7 +193,7 @@ def given(data, options):
     lines = [int(line) for line in re.findall(r"^standard input:(\d+): ", told, re.MULTILINE)]
     if lines:
         return "bad", lines, f"run_circuit: more than {MOST_TOLD} lines are bad" in told
-    return ("no qubits",) if told.startswith("run_circuit: ") else ("nothing", told)
+    return ("no qubits",) if "the circuit makes no call" in told else ("nothing", told)
 
 
 def differs(data, options):

@@ -6,7 +6,7 @@
  *   file_cut          the file that is read is cut to 100 bytes after the first read of it, which gives 50
  *   file_grown        a byte is added to the file that is read, after its first read
  *   short_writes      a write takes 3 bytes at most
- *   disk_full         the third write to a descriptor above 2 fails with ENOSPC
+ *   disk_full         the second write to a descriptor above 2 fails with ENOSPC
  *   copy_cut          the copy is cut to 10 bytes before it is read at an offset
  *   pread_error       a pread fails with EIO
  *   close_error       closing standard output fails with EIO
@@ -87,7 +87,7 @@ ssize_t write(int fd, const void *from, size_t n)
     static int writes;
     if (real == NULL)
         *(void **)&real = dlsym(RTLD_NEXT, "write");
-    if (is("disk_full") && fd > 2 && ++writes == 3)
+    if (is("disk_full") && fd > 2 && ++writes == 2)
         return fails(ENOSPC);
     return real(fd, from, is("short_writes") ? least(n, 3) : n);
 }

@@ -29,7 +29,8 @@ module _ (w : List ℕ) where
     copied-long h = rw (le-ltb (length s) (length w) h)
 
     -- in the first `room` words, which are then lent once more
-    pub copy-lent : (room : ℕ) → length w ≤ room → room ≤ length s → {copy : List ℕ} → copy ≡ copied w (take room s) → (rest : List ℕ) → take room (copy ++ rest) ≡ laid room w
+    pub copy-lent : (room : ℕ) → length w ≤ room → room ≤ length s
+        → {copy : List ℕ} → copy ≡ copied w (take room s) → (rest : List ℕ) → take room (copy ++ rest) ≡ laid room w
     unfolding copied
     copy-lent room h k e rest =
         let front = length-take-le room s k in

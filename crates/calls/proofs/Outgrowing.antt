@@ -1,6 +1,7 @@
 -- One law for each answer of the functions that say how far a call outgrew its room. Assumes nothing.
-use mathlib.Core.Path.{_≡_, refl, sym, ap, ap₂, _∙_}
+use mathlib.Core.Path.{_≡_, sym, ap, ap₂, _∙_}
 use mathlib.Core.Bool.{true, false}
+use mathlib.Core.List.{List}
 use Prim.Native.Nat.{ℕ, suc, _-_, _≤_, _<_}
 use native.Mathlib.Omega.{arith}
 use lib.Ieee.{Float}
@@ -8,11 +9,22 @@ use lib.ListN.{length}
 use borrow.Author.Tests.{eq-eqb, ne-eqb, lt-ltb, le-ltb}
 use Rattle.model.specs.Floats.{float, zeroBits, oneBits, plus, above}
 use Rattle.model.specs.Numbers.{maxCapacity}
-use Rattle.model.specs.Calls.{Call, Lent}
+use Rattle.model.specs.Calls.{Call, Lent, Left, held, gave, step}
+use Rattle.model.specs.declared.Header.{Header}
 use Rattle.model.specs.declared.Answer.{Answer}
 use Rattle.calls.specs.Stores.{laid}
-use Rattle.calls.specs.Outgrown.{withCapacity, withCutoff, answerOf, largestRoom, cappedSum, asked, unknown, countOf, boundOf, counted, bounded, entriesAsked, fitting, fittingCutoff, outgrown, outgrownBy}
+use Rattle.calls.specs.Outgrown.{withCapacity, withCutoff, answerOf, largestRoom, cappedSum, asked, unknown}
+use Rattle.calls.specs.Outgrown.{countOf, boundOf, counted, bounded, entriesAsked, fitting, fittingCutoff, outgrown, outgrownBy}
 use Rattle.calls.specs.declared.outgrown.Asked.{Asked}
+
+-- ---- the answer of the call
+
+-- as it was made, by what was lent to it
+pub answer-made : (c : Call) (h : Header) {a : Answer} {left w v : List ℕ} → gave a left ≡ step c (held h w) → w ≡ v → a ≡ answerOf c h v
+answer-made c h e p = ap (λ (l : Left). l .answer) e ∙ ap (λ (u : List ℕ). answerOf c h u) p
+
+pub answer-as : (c : Call) {a : Answer} {h k : Header} {w v : List ℕ} → a ≡ answerOf c h w → h ≡ k → w ≡ v → a ≡ answerOf c k v
+answer-as c e p q = e ∙ ap₂ (λ (g : Header) (u : List ℕ). answerOf c g u) p q
 
 -- ---- by an answer
 
@@ -46,7 +58,8 @@ module _ (c : Call) (x : Lent) (room : ℕ) where
     unfolding counted
     store-long h k = rw (← e, le-ltb room most h, lt-ltb most (length (x .words)) k)
 
-    pub has-room : most ≤ room → length (x .words) ≤ most → countOf (x .header .count) (answerOf c (withCapacity maxCapacity (x .header)) (laid most (x .words))) ≡ counted c x room
+    pub has-room : most ≤ room → length (x .words) ≤ most
+        → countOf (x .header .count) (answerOf c (withCapacity maxCapacity (x .header)) (laid most (x .words))) ≡ counted c x room
     unfolding counted
     has-room h k = rw (← e, le-ltb room most h, le-ltb most (length (x .words)) k)
 
@@ -55,9 +68,9 @@ module _ (c : Call) (x : Lent) (room : ℕ) where
     unfolding entriesAsked
     exactly h = rw (← e, h)
 
-    pub at-most : a .exact ≡ false → bounded c x ≡ entriesAsked c x room
+    pub at-most : a .exact ≡ false → {b : Asked} → b ≡ bounded c x → b ≡ entriesAsked c x room
     unfolding entriesAsked
-    at-most h = rw (← e, h)
+    at-most h f = rw (← e, h) f
 
 -- ---- cutoffs
 
@@ -82,7 +95,8 @@ module _ (c : Call) (x : Lent) (left : ℕ) (cutoff : Float) where
       pub fits-not : (a .number ≡ 0 → ⊥) → fitting c x (left - 1) (plus cutoff cutoff) ≡ fitting c x left cutoff
       unfolding fitting
       fits-not z =
-          let next : fitting c x (left - 1) (plus cutoff cutoff) ≡ fitting c x (suc (left - 1)) cutoff = rw (o, ← e, ne-eqb (a .number) 0 z) in
+          let next : fitting c x (left - 1) (plus cutoff cutoff) ≡ fitting c x (suc (left - 1)) cutoff =
+          rw (o, ← e, ne-eqb (a .number) 0 z) in
           next ∙ ap (λ (n : ℕ). fitting c x n cutoff) (sym some-left)
 
 -- ---- both
@@ -92,6 +106,7 @@ module _ (c : Call) (x : Lent) (room : ℕ) where
   unfolding outgrownBy
   short-of h = rw (lt-ltb room (length (x .words)) h)
 
-  pub both : length (x .words) ≤ room → {a : Asked} {cutoff : Float} → a ≡ entriesAsked c x room → cutoff ≡ fittingCutoff c x → outgrown a cutoff ≡ outgrownBy c x room
+  pub both : length (x .words) ≤ room → {a : Asked} {cutoff : Float}
+      → a ≡ entriesAsked c x room → cutoff ≡ fittingCutoff c x → outgrown a cutoff ≡ outgrownBy c x room
   unfolding outgrownBy
   both h e f = rw (le-ltb room (length (x .words)) h) (ap₂ outgrown e f)

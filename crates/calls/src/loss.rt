@@ -58,7 +58,8 @@ pub fn losses(
     }
 }
 
-// Whether the answer shows that something was dropped or truncated.
+// Whether something may have been dropped or truncated: a branch was dropped, or fewer entries are listed than there were and were stored.
+// (So it is after a reset that merges entries, too.)
 pub fn has_lost(before: Header, a: Answer) -> bool
     ensures { λ r. ⌜ r ≡ Spec.hasLost before a ⌝ }
 {
@@ -125,8 +126,8 @@ pub fn lost_after(lost: f64, l: Lost, total: f64, normalised: bool, left: usize)
 pub fn lost_at_start(count: usize) -> f64
     ensures { λ r. ⌜ r ≡ Spec.lostAtStart count ⌝ }
 {
-    if count == 0 {
-        return 1.0;
+    if 0 < count {
+        return 0.0;
     }
-    0.0
+    1.0
 }

@@ -7,7 +7,7 @@ use model::Size;
 ghost use mathlib.Core.Path.{_≡_};
 ghost use Prim.Native.Nat.{_≤_};
 ghost use lib.ListN.{length};
-ghost use Rattle.model.specs.Calls.{held, step};
+ghost use Rattle.model.specs.Calls.{held};
 ghost use Rattle.calls.specs.Instructions.{callOf};
 ghost use Rattle.calls.specs.Stores.{laid};
 ghost use Rattle.calls.specs.Outgrown as Spec;

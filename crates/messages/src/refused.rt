@@ -2,6 +2,7 @@
 use calls::Outgrown;
 use circuit::Item;
 use model::Header;
+use second_pass::Repetition;
 use second_pass::Run;
 use second_pass::STACK_WORDS;
 use walk::Outcome;
@@ -105,17 +106,21 @@ fn tell_name(line: &[u8], from: usize, to: usize) {
     }
 }
 
+fn tell_repetition(r: Repetition) {
+    rows::say(b" (line ");
+    rows::say_number(r.line);
+    rows::say(b": repetition ");
+    rows::say_number(r.number);
+    rows::say(b" of ");
+    rows::say_number(r.times);
+    rows::say(b")");
+}
+
 // Which repetition of each block that is open.
 fn tell_repetitions(stack: &[u64; STACK_WORDS], depth: usize) {
     let mut i: usize = 0;
     while i < depth {
-        let r = second_pass::repetition_of(stack, i);
-        rows::say(b", in repetition ");
-        rows::say_number(r.number);
-        rows::say(b" of ");
-        rows::say_number(r.times);
-        rows::say(b" of line ");
-        rows::say_number(r.line);
+        tell_repetition(second_pass::repetition_of(stack, i));
         i += 1;
     }
 }

@@ -1,178 +1,100 @@
 // Instructions of Stim that the engine does not have: what is said of each, and what stands in for it.
-use circuit::is_named;
-
 pub fn say_instructions() {
     rows::say(
-        b"an instruction was expected (H S CX CNOT X_ERROR Y_ERROR Z_ERROR PAULI_CHANNEL_1 PAULI_CHANNEL_2 ",
+        b"an instruction was expected (H S CX CNOT X_ERROR Y_ERROR Z_ERROR PAULI_CHANNEL_1 PAULI_CHANNEL_2 \
+DEPOLARIZE1 DEPOLARIZE2 I_ERROR[loss] I[reset_loss] TICK REPEAT)",
     );
-    rows::say(b"DEPOLARIZE1 DEPOLARIZE2 I_ERROR[loss] I[reset_loss] TICK REPEAT)");
 }
 
-// ---- kinds of instructions
-
-fn is_reset(word: &[u8]) -> bool {
-    is_named(word, b"R") || is_named(word, b"RX") || is_named(word, b"RY") || is_named(word, b"RZ")
-}
-
-fn is_measuring_reset(word: &[u8]) -> bool {
-    is_named(word, b"MR")
-        || is_named(word, b"MRX")
-        || is_named(word, b"MRY")
-        || is_named(word, b"MRZ")
-}
-
-fn is_measurement(word: &[u8]) -> bool {
-    if is_named(word, b"M") || is_named(word, b"MX") || is_named(word, b"MY") {
-        return true;
-    }
-    if is_named(word, b"MZ") || is_named(word, b"MPP") || is_named(word, b"MPAD") {
-        return true;
-    }
-    is_named(word, b"MXX") || is_named(word, b"MYY") || is_named(word, b"MZZ")
-}
-
-fn is_annotation(word: &[u8]) -> bool {
-    if is_named(word, b"DETECTOR") || is_named(word, b"OBSERVABLE_INCLUDE") {
-        return true;
-    }
-    is_named(word, b"QUBIT_COORDS") || is_named(word, b"SHIFT_COORDS")
-}
-
-fn is_correlated(word: &[u8]) -> bool {
-    is_named(word, b"E")
-        || is_named(word, b"CORRELATED_ERROR")
-        || is_named(word, b"ELSE_CORRELATED_ERROR")
-}
-
-fn is_heralded(word: &[u8]) -> bool {
-    is_named(word, b"HERALDED_ERASE") || is_named(word, b"HERALDED_PAULI_CHANNEL_1")
-}
-
-// ---- gates that H, S and CX make
-
-// Whether the word is this gate; then what makes it is said.
-fn say_gate(word: &[u8], name: &[u8], made_of: &[u8]) -> bool {
-    if is_named(word, name) {
-        rows::say(b"the engine does not have this gate yet; instead write ");
-        rows::say(made_of);
-        return true;
+// Whether a word is one of these names, with blanks between them.
+fn is_among(word: &[u8], names: &[u8]) -> bool {
+    let mut at: usize = 0;
+    while at < names.len() {
+        let end = bytes::scan::find(names, at, names.len(), b' ');
+        if circuit::is_named(word, &names[at..end]) {
+            return true;
+        }
+        if end == names.len() {
+            return false;
+        }
+        at = end + 1;
     }
     false
 }
 
-// Gates on one qubit q.
-fn say_single(word: &[u8]) -> bool {
-    say_gate(word, b"X", b"H q, S q, S q, H q")
-        || say_gate(word, b"Y", b"S q, S q, H q, S q, S q, H q")
-        || say_gate(word, b"Z", b"S q, S q")
-        || say_gate(word, b"SQRT_Z", b"S q")
-        || say_gate(word, b"S_DAG", b"S q, S q, S q")
-        || say_gate(word, b"SQRT_Z_DAG", b"S q, S q, S q")
-        || say_gate(word, b"H_XZ", b"H q")
-}
-
-fn say_root(word: &[u8]) -> bool {
-    say_gate(word, b"SQRT_X", b"H q, S q, H q")
-        || say_gate(word, b"SQRT_X_DAG", b"H q, S q, S q, S q, H q")
-        || say_gate(word, b"SQRT_Y", b"S q, S q, H q")
-        || say_gate(word, b"SQRT_Y_DAG", b"H q, S q, S q")
-}
-
-// .. on qubits p and q.
-fn say_pair(word: &[u8]) -> bool {
-    say_gate(word, b"ZCX", b"CX p q")
-        || say_gate(word, b"CZ", b"H q, CX p q, H q")
-        || say_gate(word, b"ZCZ", b"H q, CX p q, H q")
-        || say_gate(word, b"CY", b"S q, S q, S q, CX p q, S q")
-        || say_gate(word, b"ZCY", b"S q, S q, S q, CX p q, S q")
-        || say_gate(word, b"SWAP", b"CX p q, CX q p, CX p q")
-}
-
-// Other Clifford gates.
-fn is_gate(word: &[u8]) -> bool {
-    if is_named(word, b"H_XY") || is_named(word, b"H_YZ") || is_named(word, b"H_NXY") {
-        return true;
-    }
-    if is_named(word, b"H_NXZ") || is_named(word, b"H_NYZ") || is_named(word, b"C_XYZ") {
-        return true;
-    }
-    if is_named(word, b"C_ZYX") || is_named(word, b"ISWAP") || is_named(word, b"ISWAP_DAG") {
-        return true;
-    }
-    if is_named(word, b"XCX") || is_named(word, b"XCY") || is_named(word, b"XCZ") {
-        return true;
-    }
-    if is_named(word, b"YCX") || is_named(word, b"YCY") || is_named(word, b"YCZ") {
-        return true;
-    }
-    if is_named(word, b"SQRT_XX") || is_named(word, b"SQRT_YY") || is_named(word, b"SQRT_ZZ") {
-        return true;
-    }
-    if is_named(word, b"CXSWAP") || is_named(word, b"CZSWAP") || is_named(word, b"SWAPCX") {
-        return true;
-    }
-    is_named(word, b"SPP") || is_named(word, b"SPP_DAG") || is_named(word, b"II")
-}
-
-// ---- what is said
-
-fn say_other_kinds(word: &[u8]) {
-    if is_annotation(word) {
-        rows::say(b"this annotation changes no sum; leave the line out");
-        return;
-    }
-    if is_correlated(word) {
-        rows::say(
-            b"the engine does not have correlated errors yet; for two qubits PAULI_CHANNEL_2 stands in",
-        );
-        return;
-    }
-    if is_heralded(word) {
-        rows::say(
-            b"the engine does not have heralded errors yet; I_ERROR[loss](p) loses an atom instead",
-        );
-        return;
-    }
-    if say_single(word) || say_root(word) || say_pair(word) {
-        return;
-    }
-    if is_gate(word) {
-        rows::say(b"the engine does not have this gate yet; write it by H, S and CX");
-        return;
-    }
-    say_instructions();
-}
-
-fn say_of(word: &[u8]) {
-    if is_measurement(word) {
-        rows::say(
-            b"the engine does not measure yet; leave it out, and draw shots from --output table",
-        );
-        return;
-    }
-    if is_measuring_reset(word) {
-        rows::say(
-            b"the engine neither measures nor resets yet; at the circuit's end leave it out, and draw shots from --output table",
-        );
-        return;
-    }
-    if is_reset(word) {
-        rows::say(
-            b"the engine does not reset yet; every qubit begins as 0, so leave it out at the start (a lost atom comes back by I[reset_loss])",
-        );
-        return;
-    }
-    say_other_kinds(word);
-}
-
-// What is said of the word that begins at a place and is no instruction.
-pub fn say_instead(line: &[u8], from: usize) {
-    let to = circuit::name_end(line, from);
-    if from <= to {
-        if to <= line.len() {
-            say_of(&line[from..to]);
-            return;
+// A line of a table has names, `:` and what is said of them. Whether it was said of this word.
+fn say_by_line(line: &[u8], word: &[u8]) -> bool {
+    let colon = bytes::scan::find(line, 0, line.len(), b':');
+    if colon < line.len() {
+        if is_among(word, &line[0..colon]) {
+            let text = colon + 1;
+            rows::say(&line[text..]);
+            return true;
         }
     }
-    say_instructions();
+    false
+}
+
+// .. by the lines of a table.
+fn say_by_table(table: &[u8], word: &[u8]) -> bool {
+    let mut at: usize = 0;
+    while at < table.len() {
+        let end = bytes::scan::find(table, at, table.len(), b'\n');
+        if say_by_line(&table[at..end], word) {
+            return true;
+        }
+        if end == table.len() {
+            return false;
+        }
+        at = end + 1;
+    }
+    false
+}
+
+// Whether something was said of a word.
+fn say_of(word: &[u8]) -> bool {
+    say_by_table(
+        b"\
+M MX MY MZ MPP MPAD MXX MYY MZZ:the engine does not measure yet; leave it out, and draw shots from --output table\n\
+MR MRX MRY MRZ:the engine neither measures nor resets yet; at the end leave it out, and draw shots from --output table\n\
+R RX RY RZ:the engine does not reset yet; every qubit begins as 0, so leave it out at the start (I[reset_loss] brings back a lost atom)\n\
+DETECTOR OBSERVABLE_INCLUDE QUBIT_COORDS SHIFT_COORDS:this annotation changes no sum; leave the line out\n\
+E CORRELATED_ERROR ELSE_CORRELATED_ERROR:the engine has no correlated errors yet; for two qubits PAULI_CHANNEL_2 stands in\n\
+HERALDED_ERASE HERALDED_PAULI_CHANNEL_1:the engine has no heralded errors yet; I_ERROR[loss](p) loses an atom instead\n\
+II II_ERROR:this does nothing; leave the line out\n\
+X:the engine does not have this gate yet; instead write H q, S q, S q, H q\n\
+Y:the engine does not have this gate yet; instead write S q, S q, H q, S q, S q, H q\n\
+Z:the engine does not have this gate yet; instead write S q, S q\n\
+SQRT_Z:the engine has this gate under the name S\n\
+H_XZ:the engine has this gate under the name H\n\
+ZCX:the engine has this gate under the name CX\n\
+S_DAG SQRT_Z_DAG:the engine does not have this gate yet; instead write S q, S q, S q\n\
+SQRT_X:the engine does not have this gate yet; instead write H q, S q, H q\n\
+SQRT_X_DAG:the engine does not have this gate yet; instead write H q, S q, S q, S q, H q\n\
+SQRT_Y:the engine does not have this gate yet; instead write S q, S q, H q\n\
+SQRT_Y_DAG:the engine does not have this gate yet; instead write H q, S q, S q\n\
+CZ ZCZ:the engine does not have this gate yet; instead write H q, CX p q, H q\n\
+CY ZCY:the engine does not have this gate yet; instead write S q, S q, S q, CX p q, S q\n\
+SWAP:the engine does not have this gate yet; instead write CX p q, CX q p, CX p q\n\
+H_XY H_YZ H_NXY H_NXZ H_NYZ C_XYZ C_ZYX C_NXYZ C_XNYZ C_XYNZ C_NZYX C_ZNYX C_ZYNX XCX XCY XCZ YCX YCY YCZ \
+ISWAP ISWAP_DAG CXSWAP SWAPCX CZSWAP SWAPCZ SQRT_XX SQRT_XX_DAG SQRT_YY SQRT_YY_DAG SQRT_ZZ SQRT_ZZ_DAG SPP SPP_DAG:\
+the engine does not have this gate yet; write it by H, S and CX",
+        word,
+    )
+}
+
+fn say_of_part(line: &[u8], from: usize, to: usize) -> bool {
+    if from <= to {
+        if to <= line.len() {
+            return say_of(&line[from..to]);
+        }
+    }
+    false
+}
+
+// The word that begins at a place is no instruction.
+pub fn say_instead(line: &[u8], from: usize) {
+    if !say_of_part(line, from, circuit::name_end(line, from)) {
+        say_instructions();
+    }
 }

@@ -2,17 +2,17 @@
 use mathlib.Core.Path.{_≡_, refl, sym, ap, ap₂, _∙_, subst}
 use mathlib.Core.Bool.{Bool, true, false, cond}
 use mathlib.Core.List.{List, [], _∷_, _++_, append-nil}
-use Prim.Native.Nat.{ℕ, zero, suc, _+_, _*_, _/_, _%_, _^_, _≤_, _<_}
-use native.Mathlib.Nat.{le-trans, le-of-eq, lt-of-le-of-lt, lt-of-lt-of-le, lt-of-not-le, not-le-of-lt, one-mul, mul-one, mul-comm, mul-assoc, add-mul, mul-le-mul-left, mul-le-mul-right, pow-le-pow-right, mod-one, mod-eq-of-lt, div-eq-of-lt-le, pow-zero, pow-suc, add-zero}
-use lib.Pow.{pow-mono}
+use Prim.Native.Nat.{ℕ, zero, suc, _+_, _-_, _*_, _/_, _%_, _^_, _≤_, _<_}
+use native.Mathlib.Nat.{le-trans, le-of-eq, lt-of-le-of-lt, lt-of-lt-of-le, lt-of-not-le, not-le-of-lt, one-mul, mul-one, mul-zero, mul-suc, mul-comm, mul-assoc, add-mul, mul-le-mul, mul-le-mul-left, mul-le-mul-right, le-mul-of-pos-right, pow-le-pow-left, pow-le-pow-right, div-add-mod, mod-one, mod-eq-of-lt, div-eq-of-lt-le, pow-zero, pow-suc, add-zero}
+use lib.Pow.{pow-add, pow-mono}
 use native.Mathlib.Numerals.{add-one}
 use native.Mathlib.Omega.{arith}
 use lib.Arith.{mod-mul, lt-of-le-ne}
-use lib.Dec.{eqb, ltb, lit≤}
+use lib.Dec.{eqb, ltb}
 use lib.ListN.{length, getD, take, drop, set, drop-of-length-le}
 use lib.Seq.{drop-cons, take-all, take-suc-set, drop-set-lt, append-snoc}
 use borrow.Author.Tests.{lt-ltb, le-ltb, ltb-true, ltb-false, eqb-true, eqb-false}
-use Rattle.nearest.specs.Large.{valueOf, limit}
+use Rattle.nearest.specs.Large.{valueOf, limit, Large}
 
 -- ---- a product
 
@@ -139,26 +139,71 @@ pub room-left : (v a f i n room : ℕ) → 0 < f → i < n → v ≡ a * f ^ i �
 room-left v a f i n room p h e r =
     lt-of-le-of-lt (le-trans (le-of-eq (one-more v (v * f) a f i e refl)) (mul-le-mul-left a (pow-le-pow-right p (omega arith)))) r
 
--- 288 bytes have room
-room : (v f : ℕ) → v * f < limit * 2 ^ 64 → v * f < 256 ^ 288
-unfolding limit
-room v f h = lt-of-lt-of-le h (lit≤ tt)
+-- a number as long as b and at most b has room for a product where b has
+pub has-room : (a b : List ℕ) (f : ℕ) → valueOf b * 2 ^ 56 < 256 ^ length b → length a ≡ length b → valueOf a ≤ valueOf b → f ≤ 2 ^ 56 → valueOf a * f < 256 ^ length a
+has-room a b f r l h k = subst (λ (n : ℕ). valueOf a * f < 256 ^ n) (sym l) (lt-of-le-of-lt (mul-le-mul h k) r)
 
--- for a product of a number within the limit
-pub has-room : (a : List ℕ) (f : ℕ) → length a ≡ 288 → valueOf a < limit → f ≤ 2 ^ 56 → valueOf a * f < 256 ^ length a
-has-room a f l h k =
-    subst (λ (n : ℕ). valueOf a * f < 256 ^ n) (sym l)
-    (room (valueOf a) f (lt-of-le-of-lt (mul-le-mul-left (valueOf a) k) (omega arith)))
+pub large-room : (a : List ℕ) → Large a → valueOf a * 2 ^ 56 < 256 ^ length a
+large-room a h = omega (arith, h .room)
 
--- and for twice a product of such a number
-pub has-double-room : (a : List ℕ) (b : ℕ) → length a ≡ 288 → valueOf a < b * 2 ^ 53 → b < limit → valueOf a * 2 < 256 ^ length a
-has-double-room a b l h k = subst (λ (n : ℕ). valueOf a * 2 < 256 ^ n) (sym l) (room (valueOf a) 2 (omega arith))
+-- and so has twice a product of b
+pub has-double-room : (a b : List ℕ) → valueOf b * 2 ^ 56 < 256 ^ length b → length a ≡ length b → valueOf a < valueOf b * 2 ^ 53 → valueOf a * 2 < 256 ^ length a
+has-double-room a b r l h = subst (λ (n : ℕ). valueOf a * 2 < 256 ^ n) (sym l) (omega arith)
 
 -- a number within the limit was doubled fewer than 2200 times
 pub few-doublings : (v k : ℕ) → 0 < v → v * 2 ^ k < limit → k < 2200
 unfolding limit
 few-doublings v k p h =
     lt-of-not-le (λ (g : 2200 ≤ k). not-le-of-lt h (le-trans (pow-mono g) (le-trans (le-of-eq (sym (one-mul (2 ^ k)))) (mul-le-mul-right (2 ^ k) p))))
+
+-- and multiplied by more than 1 no more often
+pub few-steps : (v f k : ℕ) → 0 < v → 2 ≤ f → v * f ^ k < limit → k < 2200
+few-steps v f k p t h = few-doublings v k p (lt-of-le-of-lt (mul-le-mul-left v (pow-le-pow-left t k)) h)
+
+-- ---- by a power of a power
+
+pow-mul : (a m n : ℕ) → a ^ (m * n) ≡ (a ^ m) ^ n
+pow-mul a m zero = ap (λ (x : ℕ). a ^ x) (mul-zero m) ∙ pow-zero a ∙ sym (pow-zero (a ^ m))
+pow-mul a m (suc n) = ap (λ (x : ℕ). a ^ x) (mul-suc m n) ∙ pow-add a (m * n) m ∙ ap (λ (x : ℕ). x * a ^ m) (pow-mul a m n) ∙ sym (pow-suc (a ^ m) n)
+
+-- i doublings and then r times e of them
+more-doublings : (v w x i e r : ℕ) → w ≡ v * 2 ^ i → x ≡ w * (2 ^ e) ^ r → x ≡ v * 2 ^ (i + e * r)
+more-doublings v w x i e r p q =
+    q
+    ∙ ap (λ (z : ℕ). z * (2 ^ e) ^ r) p
+    ∙ mul-assoc v (2 ^ i) ((2 ^ e) ^ r)
+    ∙ ap (λ (z : ℕ). v * z) (ap (λ (z : ℕ). 2 ^ i * z) (sym (pow-mul 2 e r)) ∙ sym (pow-add 2 i (e * r)))
+
+-- 48 at once, then 6, then one
+pub all-climbs : (v x y z a b c : ℕ) → x ≡ v * (2 ^ 48) ^ a → y ≡ x * 64 ^ b → z ≡ y * 2 ^ c → z ≡ v * 2 ^ (48 * a + 6 * b + c)
+all-climbs v x y z a b c p q r =
+    let e : x ≡ v * 2 ^ (0 + 48 * a) = more-doublings v v x 0 48 a (none-yet v 2) p in
+    let f : y ≡ v * 2 ^ (0 + 48 * a + 6 * b) = more-doublings v x y (0 + 48 * a) 6 b e q in
+    let s : 0 + 48 * a + 6 * b + 1 * c ≡ 48 * a + 6 * b + c = omega arith in
+    more-doublings v y z (0 + 48 * a + 6 * b) 1 c f r ∙ ap (λ (i : ℕ). v * 2 ^ i) s
+
+-- c factors, g at a time and then the rest
+pub in-groups : (a f g c m : ℕ) → m ≡ f ^ g → a * m ^ (c / g) * f ^ (c % g) ≡ a * f ^ c
+in-groups a f g c m e =
+    mul-assoc a (m ^ (c / g)) (f ^ (c % g))
+    ∙ ap (λ (z : ℕ). a * z)
+    (ap (λ (z : ℕ). z ^ (c / g) * f ^ (c % g)) e
+    ∙ ap (λ (z : ℕ). z * f ^ (c % g)) (sym (pow-mul f g (c / g)))
+    ∙ sym (pow-add f (g * (c / g)) (c % g))
+    ∙ ap (λ (z : ℕ). f ^ z) (div-add-mod c g))
+
+-- what one factor more has room for has room
+pub fewer : (a f r : ℕ) → 0 < f → a * f < r → a < r
+fewer a f r p h = lt-of-le-of-lt (le-mul-of-pos-right a p) h
+
+-- 64^count, and the rest of 2^1074
+pub all-doublings : (a c : ℕ) → c ≤ 179 → a * 64 ^ c * 2 ^ (1074 - 6 * c) ≡ a * 2 ^ 1074
+all-doublings a c h =
+    mul-assoc a (64 ^ c) (2 ^ (1074 - 6 * c))
+    ∙ ap (λ (z : ℕ). a * z)
+    (ap (λ (z : ℕ). z * 2 ^ (1074 - 6 * c)) (sym (pow-mul 2 6 c))
+    ∙ sym (pow-add 2 (6 * c) (1074 - 6 * c))
+    ∙ (let e : 6 * c + (1074 - 6 * c) ≡ 1074 = omega arith in ap (λ (z : ℕ). 2 ^ z) e))
 
 pub between : (a b q : ℕ) → b * q ≤ a → a < b * (q + 1) → q ≡ a / b
 between a b q l h = sym (div-eq-of-lt-le b (le-trans (le-of-eq (mul-comm q b)) l) (lt-of-lt-of-le h (le-of-eq (mul-comm b (q + 1)))))

@@ -2,7 +2,7 @@
 use mathlib.Core.Path.{_≡_, sym, ap, _∙_, subst}
 use mathlib.Core.Logic.{inl, inr}
 use Prim.Native.Nat.{ℕ, _+_, _*_, _/_, _%_, _^_, _≤_, _<_, compare}
-use native.Mathlib.Nat.{le-trans, le-of-eq, lt-of-lt-of-le, lt-of-not-le, not-le-of-lt, mul-one, mul-comm, mul-assoc, mul-left-comm, mul-right-comm, mul-pos, div-lt-iff-lt-mul, le-div-iff-mul-le, div-div-eq-div-mul, eq-zero-or-pos, le-of-mul-le-mul-right}
+use native.Mathlib.Nat.{le-trans, le-of-eq, lt-of-lt-of-le, lt-of-le-of-lt, lt-of-not-le, not-le-of-lt, mul-one, mul-comm, mul-assoc, mul-left-comm, mul-right-comm, mul-pos, mul-le-mul-right, mul-lt-mul-of-pos-right, div-lt-iff-lt-mul, le-div-iff-mul-le, div-div-eq-div-mul, eq-zero-or-pos, le-of-mul-le-mul-right}
 use native.Mathlib.Omega.{arith}
 use lib.Pow.{pow-add, pow-pos, pow-mono}
 use lib.Ieee.{size}
@@ -64,9 +64,30 @@ kept-at-least n d h =
     le-trans (subst (λ (x : ℕ). 2 ^ 52 ≤ x) (div-div-eq-div-mul n d (2 ^ k)) (le-div-iff-mul-le (pow-pos k) .1 a)) (nearest-ge (n / u) (compare (n % u * 2) u))
 
 -- what is doubled stays within a limit that n, doubled, is within
-pub within-limit : (n v k w l : ℕ) → Scaled n v k w → v < l → n * 2 < l → w < l
-within-limit n v k w l s p q =
+pub within-limit : (n v k w f l : ℕ) → Scaled n v k w → v * f < l → n * 2 * f < l → w * f < l
+within-limit n v k w f l s p q =
     elim (eq-zero-or-pos k) [
-      | inl z ↦ subst (λ (x : ℕ). x < l) (sym (s .doubled ∙ ap (λ (j : ℕ). v * 2 ^ j) z ∙ mul-one v)) p
-      | inr h ↦ omega (arith, s .first h)
+      | inl z ↦ subst (λ (x : ℕ). x * f < l) (sym (s .doubled ∙ ap (λ (j : ℕ). v * 2 ^ j) z ∙ mul-one v)) p
+      | inr h ↦ lt-of-le-of-lt (mul-le-mul-right f (s .first h)) q
     ]
+
+-- v is doubled if it is not above n at first
+pub doubled-once : (n v k w : ℕ) → Scaled n v k w → v ≤ n → 0 < k
+doubled-once n v k w s h =
+    elim (eq-zero-or-pos k) [
+      | inl z ↦ absurd (omega (arith, s .above, s .doubled ∙ ap (λ (j : ℕ). v * 2 ^ j) z ∙ mul-one v))
+      | inr g ↦ g
+    ]
+
+-- n and w, both doubled j times
+module _ (n v k w j : ℕ) (s : Scaled n v k w) where
+  pub lifted : (0 < k + j → 0 < k) → Scaled (n * 2 ^ j) v (k + j) (w * 2 ^ j)
+  lifted h =
+      record {
+        doubled = ap (λ (z : ℕ). z * 2 ^ j) (s .doubled) ∙ mul-assoc v (2 ^ k) (2 ^ j) ∙ ap (λ (z : ℕ). v * z) (sym (pow-add 2 k j));
+        above = mul-lt-mul-of-pos-right (s .above) (pow-pos j);
+        first = λ p. le-trans (mul-le-mul-right (2 ^ j) (s .first (h p))) (le-of-eq (mul-right-comm n 2 (2 ^ j)));
+      }
+
+  pub lifted-closest : 0 < w → closest (n * 2 ^ 53) w ≡ closest (n * 2 ^ j * 2 ^ 53) (w * 2 ^ j)
+  lifted-closest p = closest-same (n * 2 ^ 53) w (n * 2 ^ j * 2 ^ 53) (w * 2 ^ j) p (mul-pos p (pow-pos j)) (simp (mul-assoc, mul-comm, mul-left-comm))

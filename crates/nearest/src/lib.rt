@@ -1,5 +1,5 @@
 // The f64 nearest to m × 10^k or m / 10^k, of an m of at most 19 digits: by one operation on floats where m and 10^k are exact as floats,
-// and else by exact arithmetic on numbers of 288 bytes.
+// and else by exact arithmetic on numbers of many bytes.
 ghost use mathlib.Core.Path.{_≡_};
 ghost use mathlib.Core.Bool.{false, cond};
 ghost use Prim.Native.Nat.{_^_, _<_, _≤_, _*_, _/_, compare};
@@ -8,7 +8,7 @@ ghost use lib.ListN.{length};
 ghost use lib.Ieee.{binary64, nearest, units, round, toBits};
 ghost use lib.Ieee.Nearest.{closest};
 ghost use lib.Ieee.Exact.{HasValue};
-ghost use Rattle.nearest.specs.Large.{digitLimit, valueOf, limit, Large, Fraction, Scaled, IsRounded};
+ghost use Rattle.nearest.specs.Large.{digitLimit, valueOf, Large, Fraction, Climbed, Scaled, Lifted, Sized, IsRounded};
 
 // ---- numbers of many bytes, the lowest byte first
 
@@ -77,6 +77,16 @@ fn raised(a: &mut [u8], factor: u64, count: usize)
     }
 }
 
+// a × factor^count, by many = factor^group at a time.
+fn grouped(a: &mut [u8], factor: u64, many: u64, group: usize, count: usize)
+    requires { ⌜ (many < 2 ^ 56) × (factor < 2 ^ 56) × (0 < factor) × (0 < group) × (many ≡ factor ^ group) ⌝ }
+    requires { ⌜ valueOf (now a) * factor ^ count < 256 ^ length (now a) ⌝ }
+    ensures { λ _. ⌜ valueOf (now (a .exit)) ≡ valueOf (now (a .entry)) * factor ^ count ⌝ }
+{
+    raised(a, many, count / group);
+    raised(a, factor, count % group);
+}
+
 fn copy(to: &mut [u8], from: &[u8])
     requires { ⌜ length (now to) ≡ length (now from) ⌝ }
     ensures { λ _. ⌜ now (to .exit) ≡ now (from .entry) ⌝ }
@@ -90,17 +100,36 @@ fn copy(to: &mut [u8], from: &[u8])
 
 // ---- rounded
 
-// How often v is doubled until it is above n.
-fn scale(n: &[u8], v: &mut [u8]) -> u64
-    requires { ⌜ Large (now n) × Large (now v) × (0 < valueOf (now v)) ⌝ }
-    ensures { λ r. ⌜ Scaled (valueOf (now (n .entry))) (valueOf (now (v .entry))) r (valueOf (now (v .exit))) ⌝ }
+// How often v can be multiplied by the factor and stay at most n, and v so multiplied.
+fn climb(n: &[u8], v: &mut [u8], room: &mut [u8], factor: u64) -> u64
+    requires { ⌜ Large (now n) × (length (now v) ≡ length (now n)) × (length (now room) ≡ length (now n)) ⌝ }
+    requires { ⌜ (0 < valueOf (now v)) × (valueOf (now v) ≤ valueOf (now n)) × (2 ≤ factor) × (factor < 2 ^ 56) ⌝ }
+    ensures { λ r. ⌜ Climbed (valueOf (now (n .entry))) (valueOf (now (v .entry))) factor r (valueOf (now (v .exit))) ⌝ }
 {
     let mut k: u64 = 0;
-    while !less(n, v) {
-        times(v, 2);
+    copy(room, v);
+    times(room, factor);
+    while !less(n, room) {
+        copy(v, room);
+        times(room, factor);
         k += 1;
     }
     k
+}
+
+// How often v is doubled until it is above n: 48 times at once, then 6 times, then once.
+fn scale(n: &[u8], v: &mut [u8], room: &mut [u8]) -> u64
+    requires { ⌜ Large (now n) × (length (now v) ≡ length (now n)) × (length (now room) ≡ length (now n)) × (0 < valueOf (now v)) ⌝ }
+    ensures { λ r. ⌜ Scaled (valueOf (now (n .entry))) (valueOf (now (v .entry))) r (valueOf (now (v .exit))) × (r ≤ 2200) ⌝ }
+{
+    if less(n, v) {
+        return 0;
+    }
+    let high = climb(n, v, room, 0x1_0000_0000_0000);
+    let middle = climb(n, v, room, 64);
+    let low = climb(n, v, room, 2);
+    times(v, 2);
+    48 * high + 6 * middle + low + 1
 }
 
 // a / b, by halving what it lies in.
@@ -151,7 +180,7 @@ fn closest_to(a: &mut [u8], b: &[u8], room: &mut [u8]) -> u64
 
 // The bits of q × 2^k of the smallest f64s.
 fn pattern(q: u64, k: u64) -> u64
-    requires { ⌜ (q ≤ 2 ^ 53) × (k ≤ 2200) × (0 < k → 2 ^ 52 ≤ q) ⌝ }
+    requires { ⌜ (q ≤ 2 ^ 53) × (k ≤ 4000) × (0 < k → 2 ^ 52 ≤ q) ⌝ }
     ensures { λ r. ⌜ r ≡ toBits binary64 (units binary64 false q k) ⌝ }
 {
     let bits = k * 0x10_0000_0000_0000 + q;
@@ -161,47 +190,85 @@ fn pattern(q: u64, k: u64) -> u64
     bits
 }
 
-// The bits of the f64 nearest to num / den, of n = num × 2^1074 and v = den × 2^53.
-fn rounded(n: &mut [u8], v: &mut [u8], room: &mut [u8]) -> u64
-    requires { ⌜ Large (now n) × Large (now v) × (length (now room) ≡ 288) × (0 < valueOf (now v)) × (valueOf (now n) * 2 < limit) ⌝ }
-    ensures { λ r. ⌜ IsRounded (valueOf (now (n .entry))) (valueOf (now (v .entry))) r ⌝ }
+// The bits of the f64 nearest to num / den, of n = num × 2^(1074 - lift) and v = den × 2^53.
+fn rounded(n: &mut [u8], v: &mut [u8], room: &mut [u8], lift: u64) -> u64
+    requires { ⌜ Lifted (now n) (now v) (now room) lift ⌝ }
+    ensures { λ r. ⌜ IsRounded (valueOf (now (n .entry)) * 2 ^ lift) (valueOf (now (v .entry))) r ⌝ }
 {
-    let k = scale(n, v);
+    let k = scale(n, v, room);
     times(n, 0x20_0000_0000_0000);
     let q = closest_to(n, v, room);
-    pattern(q, k)
+    pattern(q, k + lift)
 }
 
-// m × 10^up × 2^1074.
-fn numerator(n: &mut [u8], m: u64, up: usize)
-    requires { ⌜ (length (now n) ≡ 288) × (m < digitLimit) × (up ≤ 308) ⌝ }
-    ensures { λ _. ⌜ valueOf (now (n .exit)) ≡ m * 10 ^ up * 2 ^ 1074 ⌝ }
+// m × 10^up × 64^count.
+fn numerator(n: &mut [u8], m: u64, up: usize, count: usize)
+    requires { ⌜ m * 10 ^ up * 64 ^ count < 256 ^ length (now n) ⌝ }
+    ensures { λ _. ⌜ valueOf (now (n .exit)) ≡ m * 10 ^ up * 64 ^ count ⌝ }
 {
     put(n, m);
-    raised(n, 10, up);
-    raised(n, 64, 179);
+    grouped(n, 10, 10_000_000_000_000_000, 16, up);
+    grouped(n, 64, 0x1_0000_0000_0000, 8, count);
 }
 
 // 10^down × 2^53.
 fn denominator(v: &mut [u8], down: usize)
-    requires { ⌜ (length (now v) ≡ 288) × (down ≤ 342) ⌝ }
+    requires { ⌜ 2 ^ 53 * 10 ^ down < 256 ^ length (now v) ⌝ }
     ensures { λ _. ⌜ valueOf (now (v .exit)) ≡ 10 ^ down * 2 ^ 53 ⌝ }
 {
     put(v, 0x20_0000_0000_0000);
-    raised(v, 10, down);
+    grouped(v, 10, 10_000_000_000_000_000, 16, down);
 }
 
-// The bits of the f64 nearest to m × 10^up / 10^down.
-fn exact(m: u64, up: usize, down: usize) -> u64
+// The bits of the f64 nearest to m × 10^up / 10^down, by n = m × 10^up × 64^count and v = 10^down × 2^53.
+fn exact_in(
+    n: &mut [u8],
+    v: &mut [u8],
+    room: &mut [u8],
+    m: u64,
+    up: usize,
+    down: usize,
+    count: usize,
+) -> u64
+    requires { ⌜ Sized (now n) (now v) (now room) m up down count ⌝ }
+    ensures { λ r. ⌜ r ≡ toBits binary64 (round binary64 false (m * 10 ^ up) (10 ^ down)) ⌝ }
+{
+    numerator(n, m, up, count);
+    denominator(v, down);
+    rounded(n, v, room, 1074 - 6 * count as u64)
+}
+
+// The same in 48 bytes: the value is above 2^-91, so 64^24 leaves the quotient its 53 digits.
+fn exact_short(m: u64, up: usize, down: usize) -> u64
+    requires { ⌜ (m < digitLimit) × (0 < m) × (up ≤ 27) × (down ≤ 27) ⌝ }
+    ensures { λ r. ⌜ r ≡ toBits binary64 (round binary64 false (m * 10 ^ up) (10 ^ down)) ⌝ }
+{
+    let mut n = [0u8; 48];
+    let mut v = [0u8; 48];
+    let mut room = [0u8; 48];
+    exact_in(&mut n, &mut v, &mut room, m, up, down, 24)
+}
+
+// The same in 288 bytes: 64^179 is 2^1074, by which every f64 is whole.
+fn exact_long(m: u64, up: usize, down: usize) -> u64
     requires { ⌜ (m < digitLimit) × (up ≤ 308) × (down ≤ 342) ⌝ }
     ensures { λ r. ⌜ r ≡ toBits binary64 (round binary64 false (m * 10 ^ up) (10 ^ down)) ⌝ }
 {
     let mut n = [0u8; 288];
-    numerator(&mut n, m, up);
     let mut v = [0u8; 288];
-    denominator(&mut v, down);
     let mut room = [0u8; 288];
-    rounded(&mut n, &mut v, &mut room)
+    exact_in(&mut n, &mut v, &mut room, m, up, down, 179)
+}
+
+// The same, in the bytes that it takes.
+fn exact(m: u64, up: usize, down: usize) -> u64
+    requires { ⌜ (m < digitLimit) × (up ≤ 308) × (down ≤ 342) ⌝ }
+    ensures { λ r. ⌜ r ≡ toBits binary64 (round binary64 false (m * 10 ^ up) (10 ^ down)) ⌝ }
+{
+    if m != 0 && up <= 27 && down <= 27 {
+        return exact_short(m, up, down);
+    }
+    exact_long(m, up, down)
 }
 
 // ---- small powers of ten

@@ -23,6 +23,8 @@ enum Kind {
     End,
     File,
     Unknown,
+    // More bytes than a name of a file can have.
+    TooLong,
 }
 
 // ---- arguments, one by one
@@ -101,12 +103,12 @@ fn kind_of(argument: &[u8]) -> Kind {
     Kind::Unknown
 }
 
-// Argument i; one that is too long is nothing that is known.
+// Argument i.
 fn kind_at(i: usize) -> Kind {
     let mut argument = io::buffer();
     let n = os::arg(i, &mut argument);
     if os::errno() != 0 {
-        return Kind::Unknown;
+        return Kind::TooLong;
     }
     kind_of(&argument[..n])
 }
@@ -229,6 +231,12 @@ fn say_unknown(i: usize) {
     rows::say(b": there is no such option; run_circuit --help lists what there is\n");
 }
 
+fn say_too_long(i: usize) {
+    rows::say(b"run_circuit: argument ");
+    rows::say_number(i as u64);
+    rows::say(b" has more than 4096 bytes\n");
+}
+
 fn say_missing(i: usize) {
     say_argument(i);
     rows::say(b": a value was expected after it\n");
@@ -266,6 +274,10 @@ fn looked_at(i: usize, n: usize, place: usize) -> File
     match kind {
         Kind::Unknown => {
             say_unknown(i);
+            File { ok: false, place }
+        }
+        Kind::TooLong => {
+            say_too_long(i);
             File { ok: false, place }
         }
         Kind::Valued => {

@@ -44,7 +44,7 @@ pub fn are_open() -> bool {
     !no_input && !no_output
 }
 
-// Some file systems tell only now that they could not write. Whether they could.
+// Whether that succeeds.
 pub fn close_output() -> bool {
     0 <= libc::close(STDOUT_FILENO)
 }

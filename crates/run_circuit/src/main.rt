@@ -5,6 +5,7 @@ mod outputs;
 mod passes;
 
 use passes::Setup;
+ghost use Prim.Native.Nat.{_≤_};
 
 // How a run ends.
 enum Status {
@@ -123,13 +124,14 @@ fn run_arguments() -> Status {
 
 // ---- the report
 
-// A status, written to the descriptor that an option names, since a program in Rattle cannot end with one.
-fn report(status: Status) {
-    let to = options::count_option(b"--report", 3, 255, 0, b"a descriptor from 3 to 255");
-    let fd = to.value as i32;
-    if fd < 3 {
+// A status, written to a descriptor, since a program in Rattle cannot end with one. 0: to none.
+fn report(to: usize, status: Status)
+    requires { ⌜ to ≤ 255 ⌝ }
+{
+    if to == 0 {
         return;
     }
+    let fd = to as i32;
     let written = match status {
         Status::Done => io::write_all(fd, b"0\n"),
         Status::Failed => io::write_all(fd, b"1\n"),
@@ -140,15 +142,21 @@ fn report(status: Status) {
     }
 }
 
-fn main() {
-    if !descriptors::are_open() {
-        report(Status::Failed);
-        return;
-    }
+// All of it. Standard output is closed here, since some file systems tell only then that they could not write.
+fn run_all() -> Status {
     let status = run_arguments();
     if let Status::Done = status {
-        report(status_of(outputs::is_written(descriptors::close_output())));
+        return status_of(outputs::is_written(descriptors::close_output()));
+    }
+    status
+}
+
+fn main() {
+    if !descriptors::are_open() {
         return;
     }
-    report(status);
+    let to = options::count_option(b"--report", 3, 255, 0, b"a descriptor from 3 to 255");
+    if to.ok {
+        report(to.value, run_all());
+    }
 }

@@ -1,14 +1,14 @@
 -- `calls::copy` meets its contract: the words are copied to the front, and what follows them is cleared. Assumes nothing.
 use mathlib.Core.Path.{_≡_, sym, ap, _∙_}
 use mathlib.Core.List.{List}
-use Prim.Native.Nat.{ℕ, _≤_}
+use Prim.Native.Nat.{ℕ}
 use denote.Ref.{now}
 use lib.ListN.{length, take, replicate}
 use lib.Seq.{length-take-le}
+use borrow.Author.Needs.{needs}
 use Rattle.fresh.proofs.Parts.{rest-long, both-put}
 use Rattle.calls.specs.Stores.{laid}
 use Rattle.calls.proofs.Copies.{copied-short, copied-long}
-use borrow.Author.Needs.{needs}
 use Rattle.calls.proofs.copy.Statement.{statement}
 use Rattle.calls.proofs.copy.Tie as tie
 

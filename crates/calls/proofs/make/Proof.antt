@@ -1,10 +1,9 @@
 -- `calls::make` meets its contract: in each arm of the match the call is the one that its instruction stands for. Assumes nothing.
-use mathlib.Core.Path.{_≡_}
 use denote.Ref.{now}
 use borrow.Author.Needs.{needs}
 use Rattle.model.specs.Calls.{Left, held, step}
-use Rattle.calls.specs.Instructions.{callOf}
 use Rattle.circuit.specs.declared.lines.Act.{Act}
+use Rattle.calls.specs.Instructions.{callOf}
 use Rattle.calls.proofs.Matched.{matched}
 use Rattle.calls.proofs.make.Statement.{statement}
 use Rattle.calls.proofs.make.Tie as tie
@@ -59,43 +58,57 @@ same-length : tie.Need-same-length
 same-length c = search needs
 
 returns : tie.Need-returns
-returns c = let t = c .before .before .before .before in matched (left (t .before .before)) (t .enum-told .given .1) (c .before .before .gate .ensures)
+returns c =
+    let t = c .before .before .before .before in
+    matched (left (t .before .before)) (t .enum-told .given .1) (c .before .before .gate .ensures)
 
 same-length-2 : tie.Need-same-length-2
 same-length-2 c = search needs
 
 returns-2 : tie.Need-returns-2
-returns-2 c = let t = c .before .before .before .before in matched (left (t .before .before)) (t .enum-told2 .given .1) (c .before .before .gate2 .ensures)
+returns-2 c =
+    let t = c .before .before .before .before in
+    matched (left (t .before .before)) (t .enum-told2 .given .1) (c .before .before .gate2 .ensures)
 
 same-length-3 : tie.Need-same-length-3
 same-length-3 c = search needs
 
 returns-3 : tie.Need-returns-3
-returns-3 c = let t = c .before .before .before .before .before in matched (left (t .before .before)) (t .act .given .1) (c .before .before .channel .ensures)
+returns-3 c =
+    let t = c .before .before .before .before .before in
+    matched (left (t .before .before)) (t .act .given .1) (c .before .before .channel .ensures)
 
 same-length-4 : tie.Need-same-length-4
 same-length-4 c = search needs
 
 returns-4 : tie.Need-returns-4
-returns-4 c = let t = c .before .before .before .before in matched (left (t .before .before)) (t .enum-told3 .given .1) (c .before .before .reset-loss-channel .ensures)
+returns-4 c =
+    let t = c .before .before .before .before in
+    matched (left (t .before .before)) (t .enum-told3 .given .1) (c .before .before .reset-loss-channel .ensures)
 
 same-length-5 : tie.Need-same-length-5
 same-length-5 c = search needs
 
 returns-5 : tie.Need-returns-5
-returns-5 c = let t = c .before .before .before .before in matched (left (t .before .before)) (t .enum-told4 .given .1) (c .before .before .gate3 .ensures)
+returns-5 c =
+    let t = c .before .before .before .before in
+    matched (left (t .before .before)) (t .enum-told4 .given .1) (c .before .before .gate3 .ensures)
 
 same-length-6 : tie.Need-same-length-6
 same-length-6 c = search needs
 
 returns-6 : tie.Need-returns-6
-returns-6 c = let t = c .before .before .before .before in matched (left (t .before .before)) (t .enum-told5 .given .1) (c .before .before .two-qubit-pauli-error .ensures)
+returns-6 c =
+    let t = c .before .before .before .before in
+    matched (left (t .before .before)) (t .enum-told5 .given .1) (c .before .before .two-qubit-pauli-error .ensures)
 
 same-length-7 : tie.Need-same-length-7
 same-length-7 c = search needs
 
 returns-7 : tie.Need-returns-7
-returns-7 c = let t = c .before .before .before .before .before in matched (left (t .before .before)) (t .act2 .given .1) (c .before .before .depolarize2 .ensures)
+returns-7 c =
+    let t = c .before .before .before .before .before in
+    matched (left (t .before .before)) (t .act2 .given .1) (c .before .before .depolarize2 .ensures)
 
 pub make-spec : {M : Type 1} → statement M
 make-spec =

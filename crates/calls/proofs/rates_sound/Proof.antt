@@ -1,15 +1,15 @@
 -- `calls::rates_sound` meets its contract: the qubits of a channel say nothing of its rates. Assumes nothing.
-use mathlib.Core.Path.{_≡_, sym, refl, _∙_}
+use mathlib.Core.Path.{sym, refl, _∙_}
 use mathlib.Core.Bool.{Bool}
 use Prim.Native.Nat.{ℕ}
+use borrow.Author.Needs.{needs}
 use Rattle.model.specs.Lists.{every}
 use Rattle.model.specs.Numbers.{rates}
 use Rattle.model.proofs.Lists.{and-true}
-use Rattle.calls.specs.Instructions.{callOf, soundRates}
 use Rattle.circuit.specs.declared.lines.Act.{Act}
+use Rattle.calls.specs.Instructions.{callOf, soundRates}
 use Rattle.calls.proofs.Matched.{matched}
 use Rattle.calls.proofs.Rates.{not-refused, one-anywhere, two-anywhere, depolarize2-anywhere}
-use borrow.Author.Needs.{needs}
 use Rattle.calls.proofs.rates_sound.Statement.{statement}
 use Rattle.calls.proofs.rates_sound.Tie as tie
 
@@ -89,7 +89,8 @@ returns-3 c = λ p q.
     let n = a .before in
     let t = n .before .before in
     matched (sound (t .before .before) p q) (t .act2 .given .1)
-    (not-refused (c .rates-refused3 .ensures _ (a .depolarize2-arms .ensures) (n .rate-sound .ensures ∙ sym (and-true _))) ∙ depolarize2-anywhere _ 0 0 p q)
+    (not-refused (c .rates-refused3 .ensures _ (a .depolarize2-arms .ensures) (n .rate-sound .ensures ∙ sym (and-true _)))
+    ∙ depolarize2-anywhere _ 0 0 p q)
 
 returns-4 : tie.Need-returns-4
 returns-4 c = λ p q. matched (sound (c .before .before) p q) (c .enum-told2 .given .1) refl

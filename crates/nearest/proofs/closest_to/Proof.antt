@@ -1,6 +1,7 @@
 -- `nearest::closest_to` meets its contract. Assumes nothing.
 use mathlib.Core.Path.{_≡_, sym, ap, ap₂, _∙_}
 use Prim.Native.Nat.{ℕ, _+_, _*_, _^_, _<_, compare}
+use native.Mathlib.Nat.{le-of-eq}
 use native.Mathlib.Omega.{arith}
 use lib.ListN.{length}
 use lib.Ieee.{nearest}
@@ -26,8 +27,8 @@ divided c = c .before .before .before .before
 holds : (c : tie.After-copy) → valueOf (c .copy .last .0) ≡ valueOf (start (divided c) .args .b .now)
 holds c = ap valueOf (c .copy .ensures)
 
-long : (c : tie.After-copy) → length (c .copy .last .0) ≡ 288
-long c = ap length (c .copy .ensures) ∙ start (divided c) .pre .divisor .bytes
+long : (c : tie.After-copy) → length (c .copy .last .0) ≡ length (start (divided c) .args .b .now)
+long c = ap length (c .copy .ensures)
 
 quotient-requires : tie.Need-quotient-requires
 quotient-requires c κs = c .before .before .before .before .before .pre
@@ -47,12 +48,12 @@ times-requires c κs =
     let s = start (divided p) in
     let q = divided p .quotient .result in
     let k : q < 2 ^ 53 = small (divided p) in
-    (omega arith, has-room (p .copy .last .0) (2 * q + 1) (long p) (omega (arith, holds p, s .pre .divisor .small)) (omega arith))
+    (omega arith, has-room (p .copy .last .0) (s .args .b .now) (2 * q + 1) (s .pre .wide) (long p) (le-of-eq (holds p)) (omega arith))
 
 times-requires-2 : tie.Need-times-requires-2
 times-requires-2 c κs =
     let s = start (divided (c .before .before .before .before .before .before .before)) in
-    (omega arith, has-double-room (s .args .a .now) (valueOf (s .args .b .now)) (s .pre .dividend) (s .pre .small) (s .pre .divisor .small))
+    (omega arith, has-double-room (s .args .a .now) (s .args .b .now) (s .pre .wide) (s .pre .dividend) (s .pre .small))
 
 settle-requires : tie.Need-settle-requires
 settle-requires c κs =

@@ -1,7 +1,7 @@
 -- `nearest::quotient` meets its contract. The loop's invariant: the quotient is `low` at least, and below `high`. Assumes nothing.
 use mathlib.Core.Path.{_≡_, sym, ap, _∙_, subst}
 use Prim.Native.Nat.{ℕ, _+_, _*_, _-_, _/_, _^_, _≤_, _<_}
-use native.Mathlib.Nat.{mul-zero}
+use native.Mathlib.Nat.{le-of-eq, mul-zero}
 use native.Mathlib.Omega.{arith}
 use lib.ListN.{length}
 use borrow.Author.Tests.{ltb-true, ltb-false}
@@ -12,7 +12,7 @@ use Rattle.nearest.proofs.quotient.Tie as tie
 
 abbrev Inv-loop : tie.InvT-loop
 Inv-loop a b room₀ low₀ high₀ room low high =
-    (length room ≡ 288) × (low < high) × (high ≤ 2 ^ 53) × (valueOf b * low ≤ valueOf a) × (valueOf a < valueOf b * high)
+    (length room ≡ length b) × (low < high) × (high ≤ 2 ^ 53) × (valueOf b * low ≤ valueOf a) × (valueOf a < valueOf b * high)
 
 abbrev μ-loop : tie.MeasureT-loop
 μ-loop a b room₀ low₀ high₀ room low high = high - low
@@ -31,7 +31,7 @@ add-middle c = omega (arith, c .before .loop .inv .1, c .before .loop .inv .2)
 copy-requires : tie.Need-copy-requires Inv-loop μ-loop
 copy-requires c κs =
     let l = c .before .before in
-    l .loop .inv .0 ∙ sym (l .before .before .before .before .pre .divisor .bytes)
+    l .loop .inv .0
 
 times-requires : tie.Need-times-requires Inv-loop μ-loop
 times-requires c κs =
@@ -39,8 +39,8 @@ times-requires c κs =
     let l = p .before .before .before in
     let s = l .before .before .before .before in
     let m : (l .loop .low + l .loop .high) / 2 ≤ 2 ^ 53 = omega (arith, l .loop .inv .1, l .loop .inv .2) in
-    let e : valueOf (p .copy .last .0) ≡ valueOf (s .args .b .now) = ap valueOf (p .copy .ensures) in
-    (omega arith, has-room (p .copy .last .0) ((l .loop .low + l .loop .high) / 2) (p .copy .kept .0 ∙ l .loop .inv .0) (omega (arith, s .pre .divisor .small)) (omega arith))
+    let e = p .copy .ensures in
+    (omega arith, has-room (p .copy .last .0) (s .args .b .now) ((l .loop .low + l .loop .high) / 2) (s .pre .wide) (ap length e) (le-of-eq (ap valueOf e)) (omega arith))
 
 less-requires : tie.Need-less-requires Inv-loop μ-loop
 less-requires c κs =
@@ -63,7 +63,7 @@ product c =
     t .times .ensures ∙ ap (λ x. valueOf x * middle c) (p .copy .ensures)
 
 -- the room is as long as before
-long : (c : tie.After-less Inv-loop μ-loop) → length (c .before .before .before .before .times .last .0) ≡ 288
+long : (c : tie.After-less Inv-loop μ-loop) → length (c .before .before .before .before .times .last .0) ≡ length (turn c .before .before .before .before .args .b .now)
 long c =
     let t = c .before .before .before .before in
     let p = t .before .before .before .before in

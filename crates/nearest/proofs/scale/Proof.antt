@@ -1,81 +1,125 @@
--- `nearest::scale` meets its contract. The invariant: v is doubled k times, and was not above n before the last time. Assumes nothing.
-use mathlib.Core.Path.{_≡_, sym, _∙_}
-use Prim.Native.Nat.{_+_, _*_, _-_, _^_, _≤_, _<_}
+-- `nearest::scale` meets its contract. Assumes nothing.
+use mathlib.Core.Path.{_≡_, sym, _∙_, subst}
+use Prim.Native.Nat.{ℕ, _+_, _*_, _^_, _<_}
+use native.Mathlib.Nat.{lt-of-le-of-lt}
 use native.Mathlib.Omega.{arith}
-use lib.ListN.{length}
-use borrow.Author.Tests.{not-true, not-false, ltb-true, ltb-false}
-use Rattle.nearest.specs.Large.{valueOf}
-use Rattle.nearest.proofs.Large.{none-yet, one-more, has-room, few-doublings}
+use borrow.Author.Needs.{needs}
+use borrow.Author.Tests.{ltb-true, ltb-false}
+use Rattle.nearest.specs.Large.{valueOf, limit}
+use Rattle.nearest.proofs.Large.{none-yet, one-more, has-room, large-room, few-doublings, all-climbs}
 use Rattle.nearest.proofs.scale.Statement.{statement}
 use Rattle.nearest.proofs.scale.Tie as tie
 
-abbrev Inv-loop : tie.InvT-loop
-Inv-loop n v₀ k₀ v k = (length v ≡ 288) × (0 < valueOf v) × (valueOf v ≡ valueOf v₀ * 2 ^ k) × (0 < k → valueOf v ≤ valueOf n * 2) × (k ≤ 2200)
+abbrev start : tie.After-climb → tie.Start
+start c = c .before .before .before .before .before .before .before .before .before
 
-abbrev μ-loop : tie.MeasureT-loop
-μ-loop n v₀ k₀ v k = valueOf n + 1 - valueOf v
+abbrev climb1 : tie.After-climb2 → tie.After-climb
+climb1 c = c .before .before .before .before .before .before .before
 
--- v is not above n yet
-under : (c : tie.Then1 Inv-loop μ-loop) → valueOf (c .before .before .before .loop .v) ≤ valueOf (c .before .before .before .before .before .before .args .n .now)
-under c = ltb-false _ _ (sym (c .before .less .ensures) ∙ not-true _ (c .if1 .taken))
+abbrev climb2 : tie.After-climb3 → tie.After-climb2
+climb2 c = c .before .before .before .before .before .before .before
 
-loop-holds : tie.Need-loop-holds Inv-loop μ-loop
-loop-holds c =
-    let s = c .before .before in
-    (s .pre .1 .bytes, s .pre .2, none-yet (valueOf (s .args .v .now)) 2, λ h. absurd (omega arith), omega arith)
+-- how often v is doubled, so far
+abbrev count : tie.After-climb3 → ℕ
+count c = 48 * climb1 (climb2 c) .climb .result + 6 * climb2 c .climb2 .result + c .climb3 .result
 
-less-requires : tie.Need-less-requires Inv-loop μ-loop
-less-requires c κs =
-    let l = c .before in
-    l .before .before .before .pre .0 .bytes ∙ sym (l .loop .inv .0)
+doubled : (c : tie.After-climb3) → valueOf (c .climb3 .last .1 .0) ≡ valueOf (start (climb1 (climb2 c)) .args .v .now) * 2 ^ count c
+doubled c =
+    let b = climb2 c in
+    let a = climb1 b in
+    all-climbs _ _ _ _ (a .climb .result) (b .climb2 .result) (c .climb3 .result) (a .climb .ensures .multiplied) (b .climb2 .ensures .multiplied) (c .climb3 .ensures .multiplied)
 
-times-requires : tie.Need-times-requires Inv-loop μ-loop
-times-requires c κs =
-    let t = c .before in
-    let l = t .before .before .before in
-    let s = l .before .before .before in
-    (omega arith, has-room (l .loop .v) 2 (l .loop .inv .0) (omega (arith, under t, s .pre .0 .small)) (omega arith))
+few : (c : tie.After-climb3) → count c < 2200
+few c =
+    let s = start (climb1 (climb2 c)) in
+    few-doublings (valueOf (s .args .v .now)) (count c) (s .pre .3)
+    (subst (λ (z : ℕ). z < limit) (doubled c) (lt-of-le-of-lt (c .climb3 .ensures .within) (s .pre .0 .small)))
 
-add-k : tie.Need-add-k Inv-loop μ-loop
-add-k c = omega (arith, c .before .before .before .before .before .before .before .loop .inv .4)
+less-requires : tie.Need-less-requires
+less-requires c κs = sym (c .before .before .before .before .pre .1)
 
-loop-less : tie.Need-loop-less Inv-loop μ-loop
-loop-less c =
-    let t = c .before .before in
-    let u = t .before .before in
-    let l = u .before .before .before in
-    omega (arith, under u, t .times .ensures, l .loop .inv .1)
+same-length : tie.Need-same-length
+same-length c = search needs
 
-loop-again : tie.Need-loop-again Inv-loop μ-loop
-loop-again c =
-    let t = c .before .before in
-    let u = t .before .before in
-    let l = u .before .before .before in
-    let s = l .before .before .before in
-    let v₀ = valueOf (s .args .v .now) in
-    let e : valueOf (t .times .last .0) ≡ valueOf (l .loop .v) * 2 = t .times .ensures in
-    let f : l .loop .k < 2200 = few-doublings v₀ (l .loop .k) (s .pre .2) (omega (arith, under u, l .loop .inv .2, s .pre .0 .small)) in (
-      t .times .kept .0 ∙ l .loop .inv .0,
-      omega (arith, e, l .loop .inv .1),
-      one-more (valueOf (l .loop .v)) (valueOf (t .times .last .0)) v₀ 2 (l .loop .k) (l .loop .inv .2) e,
-      λ h. omega (arith, e, under u),
-      omega arith,
+returns : tie.Need-returns
+returns c =
+    let s = c .before .before .before .before .before .before in
+    let above : valueOf (s .args .n .now) < valueOf (s .args .v .now) = ltb-true _ _ (sym (c .before .less .ensures) ∙ c .if1 .taken) in
+    (record { doubled = none-yet (valueOf (s .args .v .now)) 2; above = above; first = λ h. absurd (omega arith) }, omega arith)
+
+climb-requires : tie.Need-climb-requires
+climb-requires c κs =
+    let e = c .before .before in
+    let s = e .before .before .before .before .before .before in
+    ((s .pre .0, s .pre .1, s .pre .2), (s .pre .3, ltb-false _ _ (sym (e .before .less .ensures) ∙ e .if1 .left), omega arith, omega arith))
+
+climb-requires-2 : tie.Need-climb-requires-2
+climb-requires-2 c κs =
+    let a = c .before .before .before .before .before .before in
+    let s = start a in
+    let e = a .climb .ensures in
+    ((s .pre .0, a .climb .kept .1 .0 ∙ s .pre .1, a .climb .kept .1 .1 .0 ∙ s .pre .2), (omega (arith, e .last), e .within, omega arith, omega arith))
+
+climb-requires-3 : tie.Need-climb-requires-3
+climb-requires-3 c κs =
+    let b = c .before .before .before .before .before .before in
+    let a = climb1 b in
+    let s = start a in
+    let e = b .climb2 .ensures in (
+      (s .pre .0, b .climb2 .kept .1 .0 ∙ a .climb .kept .1 .0 ∙ s .pre .1, b .climb2 .kept .1 .1 .0 ∙ a .climb .kept .1 .1 .0 ∙ s .pre .2),
+      (omega (arith, e .last), e .within, omega arith, omega arith),
     )
 
-same-length : tie.Need-same-length Inv-loop μ-loop
-same-length c =
-    let l = c .before .before .before in
-    l .loop .inv .0 ∙ sym (l .before .before .before .pre .1 .bytes)
+times-requires : tie.Need-times-requires
+times-requires c κs =
+    let d = c .before .before .before .before .before in
+    let b = climb2 d in
+    let a = climb1 b in
+    let s = start a in
+    let long = d .climb3 .kept .1 .0 ∙ b .climb2 .kept .1 .0 ∙ a .climb .kept .1 .0 ∙ s .pre .1 in
+    (omega arith, has-room (d .climb3 .last .1 .0) (s .args .n .now) 2 (large-room (s .args .n .now) (s .pre .0)) long (d .climb3 .ensures .within) (omega arith))
 
-returns : tie.Need-returns Inv-loop μ-loop
-returns c =
-    let l = c .before .before .before in
-    record {
-      doubled = l .loop .inv .2;
-      above = ltb-true _ _ (sym (c .before .less .ensures) ∙ not-false _ (c .if1 .left));
-      first = l .loop .inv .3;
-      few = l .loop .inv .4;
-    }
+abbrev climbed : tie.After-times → tie.After-climb3
+climbed c = c .before .before .before .before .before .before
+
+mul-result : tie.Need-mul-result
+mul-result c = omega (arith, few (climbed (c .before .before)))
+
+mul-result-2 : tie.Need-mul-result-2
+mul-result-2 c = omega (arith, few (climbed (c .before .before)))
+
+add-result : tie.Need-add-result
+add-result c = omega (arith, few (climbed (c .before .before)))
+
+add-result-2 : tie.Need-add-result-2
+add-result-2 c = omega (arith, few (climbed (c .before .before)))
+
+add-result-3 : tie.Need-add-result-3
+add-result-3 c = omega (arith, few (climbed (c .before .before)))
+
+same-length-2 : tie.Need-same-length-2
+same-length-2 c = search needs
+
+same-length-3 : tie.Need-same-length-3
+same-length-3 c = search needs
+
+returns-2 : tie.Need-returns-2
+returns-2 c =
+    let t = c .before .before in
+    let d = climbed t in
+    let n = valueOf (start (climb1 (climb2 d)) .args .n .now) in
+    let x = valueOf (d .climb3 .last .1 .0) in
+    let e : valueOf (t .times .last .0) ≡ x * 2 = t .times .ensures in
+    let k = few d in (
+      record {
+        doubled = one-more x (valueOf (t .times .last .0)) (valueOf (start (climb1 (climb2 d)) .args .v .now)) 2 (count d) (doubled d) e;
+        above = subst (λ (z : ℕ). n < z) (sym e) (d .climb3 .ensures .last);
+        first = λ h. omega (arith, e, d .climb3 .ensures .within);
+      },
+      omega (arith, k),
+    )
 
 pub scale-spec : {M : Type 1} → statement M
-scale-spec = tie.close (tie.spec Inv-loop μ-loop loop-holds less-requires times-requires add-k loop-less loop-again same-length returns)
+scale-spec =
+    tie.close
+    (tie.spec less-requires same-length returns climb-requires climb-requires-2 climb-requires-3 times-requires mul-result mul-result-2 add-result add-result-2 add-result-3 same-length-2 same-length-3 returns-2)

@@ -1,16 +1,16 @@
 -- `calls::loss::can_lose` meets its contract. Assumes nothing.
-use mathlib.Core.Path.{_≡_, refl, sym}
+use mathlib.Core.Path.{refl, sym}
 use mathlib.Core.Bool.{true≢false}
 use mathlib.Core.List.{List}
 use Prim.Native.Nat.{ℕ}
 use lib.Ieee.{Float}
+use borrow.Author.Needs.{needs}
 use Rattle.model.specs.Calls.{Lent}
 use Rattle.drops.specs.declared.Lost.{Lost}
+use Rattle.circuit.specs.declared.lines.Act.{Act}
 use Rattle.calls.specs.Instructions.{callOf}
 use Rattle.calls.specs.Loss.{lostBy}
-use Rattle.circuit.specs.declared.lines.Act.{Act}
 use Rattle.calls.proofs.Matched.{matched}
-use borrow.Author.Needs.{needs}
 use Rattle.calls.proofs.loss.can_lose.Statement.{statement}
 use Rattle.calls.proofs.loss.can_lose.Tie as tie
 

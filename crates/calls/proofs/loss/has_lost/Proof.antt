@@ -15,7 +15,10 @@ returns-2 c = let e = c .before .before .before in rw (le-ltb 0 _ (e .if1 .left)
 
 returns-3 : tie.Need-returns-3
 unfolding hasLost
-returns-3 c = let d = c .before .before .before in let e = d .before .before .before in rw (le-ltb 0 _ (e .if1 .left)) (less-than-sum _ _ _ (d .if2 .left))
+returns-3 c =
+    let d = c .before .before .before in
+    let e = d .before .before .before in
+    rw (le-ltb 0 _ (e .if1 .left)) (less-than-sum _ _ _ (d .if2 .left))
 
 pub has-lost-spec : {M : Type 1} → statement M
 has-lost-spec = tie.close (tie.spec returns returns-2 returns-3)

@@ -1,7 +1,7 @@
 -- `calls::loss::lost_after` meets its contract. Assumes nothing.
 use borrow.Author.Tests.{eq-eqb, ne-eqb}
-use Rattle.calls.specs.Loss.{lostAfter}
 use borrow.Author.Needs.{needs}
+use Rattle.calls.specs.Loss.{lostAfter}
 use Rattle.calls.proofs.loss.lost_after.Statement.{statement}
 use Rattle.calls.proofs.loss.lost_after.Tie as tie
 

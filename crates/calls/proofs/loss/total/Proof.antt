@@ -1,12 +1,11 @@
 -- `calls::loss::total` meets its contract. Assumes nothing.
-use mathlib.Core.Path.{_≡_, sym, _∙_}
+use mathlib.Core.Path.{sym, _∙_}
 use denote.Ref.{now}
 use borrow.Author.Tests.{eq-eqb, ne-eqb}
+use borrow.Author.Needs.{needs}
 use Rattle.model.specs.Calls.{Lent, held}
-use Rattle.model.specs.Numbers.{firstOf}
 use Rattle.model.proofs.Sound.{sound-packed}
 use Rattle.calls.specs.Loss.{weightOf}
-use borrow.Author.Needs.{needs}
 use Rattle.calls.proofs.loss.total.Statement.{statement}
 use Rattle.calls.proofs.loss.total.Tie as tie
 
@@ -25,14 +24,18 @@ words-sound-requires : tie.Need-words-sound-requires
 words-sound-requires c κs = search needs
 
 weights-total-requires : tie.Need-weights-total-requires
-weights-total-requires c κs = let s = c .before .before in sound-packed (given (s .before)) (sym (s .before .shape-number .ensures) ∙ s .if1 .left) (sym (c .before .words-sound .ensures) ∙ c .if2 .taken)
+weights-total-requires c κs =
+    let s = c .before .before in
+    sound-packed (given (s .before)) (sym (s .before .shape-number .ensures) ∙ s .if1 .left)
+    (sym (c .before .words-sound .ensures) ∙ c .if2 .taken)
 
 returns-2 : tie.Need-returns-2
 unfolding weightOf
 returns-2 c =
     let w = c .before .before in
     let s = w .before in
-    rw (← s .before .shape-number .ensures, eq-eqb _ 0 (s .if1 .left), ← w .words-sound .ensures, c .before .if2 .taken) (c .weights-total .ensures)
+    rw (← s .before .shape-number .ensures, eq-eqb _ 0 (s .if1 .left), ← w .words-sound .ensures, c .before .if2 .taken)
+    (c .weights-total .ensures)
 
 returns-3 : tie.Need-returns-3
 unfolding weightOf

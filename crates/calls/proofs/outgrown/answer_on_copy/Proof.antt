@@ -1,15 +1,14 @@
 -- `calls::outgrown::answer_on_copy` meets its contract. Assumes nothing.
 use mathlib.Core.Path.{_≡_, sym, ap, _∙_}
-use mathlib.Core.List.{List, _++_}
-use Prim.Native.Nat.{ℕ}
+use mathlib.Core.List.{_++_}
 use denote.Ref.{now}
 use lib.ListN.{length, take, drop}
 use lib.Seq.{length-take-le}
-use Rattle.model.specs.Calls.{Left, held, step}
+use borrow.Author.Needs.{needs}
 use Rattle.calls.specs.Instructions.{callOf}
 use Rattle.calls.specs.Stores.{laid}
 use Rattle.calls.proofs.Copies.{laid-length, copy-lent}
-use borrow.Author.Needs.{needs}
+use Rattle.calls.proofs.Outgrowing.{answer-made}
 use Rattle.calls.proofs.outgrown.answer_on_copy.Statement.{statement}
 use Rattle.calls.proofs.outgrown.answer_on_copy.Tie as tie
 
@@ -53,8 +52,7 @@ returns c =
     let m = c .before .before in
     let k = m .before .before .before .before in
     let a = from k .args in
-    ap (λ (l : Left). l .answer) (m .make .ensures)
-    ∙ ap (λ (w : List ℕ). step (callOf (a .act) (a .rates) (a .p) (a .q)) (held (a .h) w) .answer) (lent k)
+    answer-made (callOf (a .act) (a .rates) (a .p) (a .q)) (a .h) (m .make .ensures) (lent k)
 
 pub answer-on-copy-spec : {M : Type 1} → statement M
 answer-on-copy-spec =

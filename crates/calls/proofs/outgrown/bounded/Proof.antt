@@ -1,17 +1,14 @@
 -- `calls::outgrown::bounded` meets its contract. Assumes nothing.
-use mathlib.Core.Path.{_≡_, ap, ap₂, _∙_}
-use mathlib.Core.List.{List}
-use Prim.Native.Nat.{ℕ}
+use mathlib.Core.Path.{_≡_, ap, _∙_}
 use denote.Ref.{now}
 use lib.Ieee.{nanBits}
+use borrow.Author.Needs.{needs}
 use Rattle.model.specs.Floats.{float}
 use Rattle.model.specs.Calls.{Call, Lent, held}
-use Rattle.model.specs.declared.Header.{Header}
 use Rattle.calls.specs.Instructions.{callOf}
 use Rattle.calls.specs.Outgrown.{withCutoff, answerOf, boundOf, bounded}
 use Rattle.calls.proofs.Copies.{laid-same}
-use Rattle.calls.proofs.Outgrowing.{bound-refused, bound-is}
-use borrow.Author.Needs.{needs}
+use Rattle.calls.proofs.Outgrowing.{answer-as, bound-refused, bound-is}
 use Rattle.calls.proofs.outgrown.bounded.Statement.{statement}
 use Rattle.calls.proofs.outgrown.bounded.Tie as tie
 
@@ -26,10 +23,10 @@ abbrev from : tie.After-answer-on-copy → tie.Start
 from c = c .before .before .before .before .before
 
 answered : (c : tie.After-answer-on-copy) →
-    let x = given (from c) in c .answer-on-copy .result ≡ answerOf (call (from c)) (withCutoff (float 0x7fef_ffff_ffff_ffff) (x .header)) (x .words)
+    let x = given (from c) in
+    c .answer-on-copy .result ≡ answerOf (call (from c)) (withCutoff (float 0x7fef_ffff_ffff_ffff) (x .header)) (x .words)
 answered c =
-    c .answer-on-copy .ensures
-    ∙ ap₂ (λ (h : Header) (w : List ℕ). answerOf (call (from c)) h w) (c .before .before .with-cutoff .ensures) (laid-same (given (from c) .words))
+    let b = from c in answer-as (call b) (c .answer-on-copy .ensures) (c .before .before .with-cutoff .ensures) (laid-same (given b .words))
 
 float-from-bits-largest : tie.Need-float-from-bits-largest
 unfolding nanBits

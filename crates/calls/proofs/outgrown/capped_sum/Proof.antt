@@ -1,7 +1,7 @@
 -- `calls::outgrown::capped_sum` meets its contract. Assumes nothing.
 use native.Mathlib.Omega.{arith}
-use Rattle.calls.proofs.Counts.{sum-fits, sum-capped}
 use borrow.Author.Needs.{needs}
+use Rattle.calls.proofs.Counts.{sum-fits, sum-capped}
 use Rattle.calls.proofs.outgrown.capped_sum.Statement.{statement}
 use Rattle.calls.proofs.outgrown.capped_sum.Tie as tie
 

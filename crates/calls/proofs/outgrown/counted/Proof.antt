@@ -1,17 +1,13 @@
 -- `calls::outgrown::counted` meets its contract: one law for each of its answers. Assumes nothing.
-use mathlib.Core.Path.{_≡_, ap, _∙_}
-use mathlib.Core.List.{List}
+use mathlib.Core.Path.{_≡_, refl, ap, _∙_}
 use Prim.Native.Nat.{ℕ}
 use denote.Ref.{now}
 use lib.ListN.{length}
-use Rattle.model.specs.Numbers.{maxCapacity}
-use Rattle.model.specs.Calls.{Call, Lent, held}
-use Rattle.model.specs.declared.Header.{Header}
-use Rattle.calls.specs.Instructions.{callOf}
-use Rattle.calls.specs.Stores.{laid}
-use Rattle.calls.specs.Outgrown.{withCapacity, answerOf, countOf, counted}
-use Rattle.calls.proofs.Outgrowing.{count-refused, count-is, scratch-short, store-long, has-room}
 use borrow.Author.Needs.{needs}
+use Rattle.model.specs.Calls.{Call, Lent, held}
+use Rattle.calls.specs.Instructions.{callOf}
+use Rattle.calls.specs.Outgrown.{countOf, counted}
+use Rattle.calls.proofs.Outgrowing.{answer-as, count-refused, count-is, scratch-short, store-long, has-room}
 use Rattle.calls.proofs.outgrown.counted.Statement.{statement}
 use Rattle.calls.proofs.outgrown.counted.Tie as tie
 
@@ -40,8 +36,7 @@ answered c =
     let r = t .before .before in
     let b = from r in
     let x = given b in
-    ap (countOf (x .header .count))
-    (c .answer-on-copy .ensures ∙ ap (λ (h : Header). answerOf (call b) h (laid (r .largest-room .result) (x .words))) (c .before .before .with-capacity .ensures))
+    ap (countOf (x .header .count)) (answer-as (call b) (c .answer-on-copy .ensures) (c .before .before .with-capacity .ensures) refl)
     ∙ has-room (call b) x (room b) (r .largest-room .ensures) (t .before .if1 .left) (t .if2 .left)
 
 largest-room-requires : tie.Need-largest-room-requires

@@ -1,9 +1,23 @@
 -- `calls::outgrown::entries_asked` meets its contract. Assumes nothing.
-use mathlib.Core.Path.{_∙_}
-use Rattle.calls.proofs.Outgrowing.{exactly, at-most}
+use Prim.Native.Nat.{ℕ}
+use denote.Ref.{now}
+use lib.ListN.{length}
 use borrow.Author.Needs.{needs}
+use Rattle.model.specs.Calls.{Call, Lent, held}
+use Rattle.calls.specs.Instructions.{callOf}
+use Rattle.calls.proofs.Outgrowing.{exactly, at-most}
 use Rattle.calls.proofs.outgrown.entries_asked.Statement.{statement}
 use Rattle.calls.proofs.outgrown.entries_asked.Tie as tie
+
+-- the call, and the sum as it is given
+abbrev call : tie.Start → Call
+call c = let a = c .args in callOf (a .act) (a .rates) (a .p) (a .q)
+
+abbrev given : tie.Start → Lent
+given c = held (c .args .h) (now (c .args .store))
+
+abbrev room : tie.Start → ℕ
+room c = length (now (c .args .scratch))
 
 counted-requires : tie.Need-counted-requires
 counted-requires c κs = search needs
@@ -12,7 +26,10 @@ same-length : tie.Need-same-length
 same-length c = search needs
 
 returns : tie.Need-returns
-returns c = exactly _ _ _ (c .before .before .before .counted .ensures) (c .if1 .taken)
+returns c =
+    let a = c .before .before .before in
+    let b = a .before .before .before .before in
+    exactly (call b) (given b) (room b) (a .counted .ensures) (c .if1 .taken)
 
 bounded-requires : tie.Need-bounded-requires
 bounded-requires c κs = search needs
@@ -23,7 +40,9 @@ same-length-2 c = search needs
 returns-2 : tie.Need-returns-2
 returns-2 c =
     let e = c .before .before .before .before in
-    c .before .before .bounded .ensures ∙ at-most _ _ _ (e .before .before .before .counted .ensures) (e .if1 .left)
+    let a = e .before .before .before in
+    let b = a .before .before .before .before in
+    at-most (call b) (given b) (room b) (a .counted .ensures) (e .if1 .left) (c .before .before .bounded .ensures)
 
 pub entries-asked-spec : {M : Type 1} → statement M
 entries-asked-spec =

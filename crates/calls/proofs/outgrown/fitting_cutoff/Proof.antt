@@ -1,17 +1,14 @@
 -- `calls::outgrown::fitting_cutoff` meets its contract. The invariant: what is left to try gives the answer. Assumes nothing.
-use mathlib.Core.Path.{_≡_, refl, ap, ap₂, _∙_}
-use mathlib.Core.List.{List}
-use Prim.Native.Nat.{ℕ, _≤_}
-use native.Mathlib.Omega.{arith}
+use mathlib.Core.Path.{_≡_, refl, ap, _∙_}
+use Prim.Native.Nat.{_≤_}
 use denote.Ref.{now}
 use lib.ListN.{length}
 use borrow.Author.Needs.{needs}
 use Rattle.model.specs.Calls.{Call, Lent, held}
-use Rattle.model.specs.declared.Header.{Header}
 use Rattle.calls.specs.Instructions.{callOf}
 use Rattle.calls.specs.Outgrown.{withCutoff, answerOf, fitting, fittingCutoff}
 use Rattle.calls.proofs.Copies.{laid-same}
-use Rattle.calls.proofs.Outgrowing.{none-left, above-one, fits, fits-not}
+use Rattle.calls.proofs.Outgrowing.{answer-as, none-left, above-one, fits, fits-not}
 use Rattle.calls.proofs.outgrown.fitting_cutoff.Statement.{statement}
 use Rattle.calls.proofs.outgrown.fitting_cutoff.Tie as tie
 
@@ -40,14 +37,14 @@ answered : (c : tie.After-answer-on-copy Inv-loop μ-loop) →
     c .answer-on-copy .result ≡ answerOf (call (from l)) (withCutoff (l .loop .cutoff) (x .header)) (x .words)
 answered c =
     let b = from (c .before .before .before .before .before) in
-    c .answer-on-copy .ensures ∙ ap₂ (λ (h : Header) (w : List ℕ). answerOf (call b) h w) (c .before .before .with-cutoff .ensures) (laid-same (given b .words))
+    answer-as (call b) (c .answer-on-copy .ensures) (c .before .before .with-cutoff .ensures) (laid-same (given b .words))
 
 first-cutoff-requires : tie.Need-first-cutoff-requires Inv-loop μ-loop
 first-cutoff-requires c κs = search needs
 
 loop-holds : tie.Need-loop-holds Inv-loop μ-loop
 unfolding fittingCutoff
-loop-holds c = (c .before .before .before .pre, refl, ap (fitting (call (c .before .before .before)) (given (c .before .before .before)) 65) (c .first-cutoff .ensures))
+loop-holds c = let b = c .before .before .before in (b .pre, refl, ap (fitting (call b) (given b) 65) (c .first-cutoff .ensures))
 
 same-length : tie.Need-same-length Inv-loop μ-loop
 same-length c = search needs
@@ -73,7 +70,8 @@ returns-2 c =
     let e = r .before .before .before in
     let l = e .before .before in
     let b = from l in
-    fits (call b) (given b) (l .loop .left) (l .loop .cutoff) (e .before .loop-test .taken) (e .if1 .left) (answered r) (c .if2 .taken) ∙ l .loop .inv .2
+    fits (call b) (given b) (l .loop .left) (l .loop .cutoff) (e .before .loop-test .taken) (e .if1 .left) (answered r) (c .if2 .taken)
+    ∙ l .loop .inv .2
 
 sub-left : tie.Need-sub-left Inv-loop μ-loop
 sub-left c = search needs
@@ -87,13 +85,17 @@ loop-again c =
     let e = r .before .before .before in
     let l = e .before .before in
     let b = from l in
-    (search needs, search needs, fits-not (call b) (given b) (l .loop .left) (l .loop .cutoff) (e .before .loop-test .taken) (e .if1 .left) (answered r) (c .if2 .left) ∙ l .loop .inv .2)
+    let t = e .before .loop-test .taken in
+    let next = fits-not (call b) (given b) (l .loop .left) (l .loop .cutoff) t (e .if1 .left) (answered r) (c .if2 .left) in
+    (search needs, search needs, next ∙ l .loop .inv .2)
 
 same-length-3 : tie.Need-same-length-3 Inv-loop μ-loop
 same-length-3 c = search needs
 
 returns-3 : tie.Need-returns-3 Inv-loop μ-loop
-returns-3 c = let l = c .before in none-left (call (from l)) (given (from l)) (l .loop .left) (l .loop .cutoff) (c .loop-test .left) ∙ l .loop .inv .2
+returns-3 c =
+    let l = c .before in
+    none-left (call (from l)) (given (from l)) (l .loop .left) (l .loop .cutoff) (c .loop-test .left) ∙ l .loop .inv .2
 
 pub fitting-cutoff-spec : {M : Type 1} → statement M
 fitting-cutoff-spec =

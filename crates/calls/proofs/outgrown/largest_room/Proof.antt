@@ -2,8 +2,8 @@
 use mathlib.Core.Path.{ap}
 use Prim.Native.Nat.{ℕ, _*_}
 use borrow.Author.Tests.{le-leb, lt-leb}
-use Rattle.calls.specs.Outgrown.{largestRoom}
 use borrow.Author.Needs.{needs}
+use Rattle.calls.specs.Outgrown.{largestRoom}
 use Rattle.calls.proofs.outgrown.largest_room.Statement.{statement}
 use Rattle.calls.proofs.outgrown.largest_room.Tie as tie
 
@@ -15,7 +15,9 @@ mul-result c = search needs
 
 returns : tie.Need-returns
 unfolding largestRoom
-returns c = rw (le-leb _ 64 (c .before .before .before .if1 .taken), le-leb _ 64 (c .before .if2 .taken)) (ap (λ (n : ℕ). 256 * n) (c .entry-len .ensures))
+returns c =
+    rw (le-leb _ 64 (c .before .before .before .if1 .taken), le-leb _ 64 (c .before .if2 .taken))
+    (ap (λ (n : ℕ). 256 * n) (c .entry-len .ensures))
 
 returns-2 : tie.Need-returns-2
 unfolding largestRoom

@@ -1,14 +1,23 @@
 -- `calls::outgrown::outgrown_by` meets its contract. Assumes nothing.
-use mathlib.Core.Path.{_≡_, ap₂, _∙_}
-use lib.Ieee.{Float}
-use borrow.Author.Tests.{lt-ltb, le-ltb}
-use Rattle.calls.specs.Outgrown.{outgrownBy}
-use Rattle.calls.specs.declared.outgrown.Asked.{Asked}
-use Rattle.calls.specs.declared.outgrown.Outgrown.{Outgrown}
-use Rattle.calls.proofs.Outgrowing.{short-of, both}
+use Prim.Native.Nat.{ℕ}
+use denote.Ref.{now}
+use lib.ListN.{length}
 use borrow.Author.Needs.{needs}
+use Rattle.model.specs.Calls.{Call, Lent, held}
+use Rattle.calls.specs.Instructions.{callOf}
+use Rattle.calls.proofs.Outgrowing.{short-of, both}
 use Rattle.calls.proofs.outgrown.outgrown_by.Statement.{statement}
 use Rattle.calls.proofs.outgrown.outgrown_by.Tie as tie
+
+-- the call, and the sum as it is given
+abbrev call : tie.Start → Call
+call c = let a = c .args in callOf (a .act) (a .rates) (a .p) (a .q)
+
+abbrev given : tie.Start → Lent
+given c = held (c .args .h) (now (c .args .store))
+
+abbrev room : tie.Start → ℕ
+room c = length (now (c .args .scratch))
 
 returns : tie.Need-returns
 returns c = short-of _ _ _ (c .if1 .taken)
@@ -25,7 +34,9 @@ same-length c = search needs
 returns-2 : tie.Need-returns-2
 returns-2 c =
     let a = c .before .before .before .before .before .before in
-    both _ _ _ (a .before .before .if1 .left) (a .entries-asked .ensures) (c .before .before .fitting-cutoff .ensures)
+    let e = a .before .before in
+    let b = e .before .before .before in
+    both (call b) (given b) (room b) (e .if1 .left) (a .entries-asked .ensures) (c .before .before .fitting-cutoff .ensures)
 
 pub outgrown-by-spec : {M : Type 1} → statement M
 outgrown-by-spec =

@@ -8,10 +8,10 @@ use Rattle.messages.proofs.refused.tell_repetitions.Statement.{statemen
 use Rattle.messages.proofs.refused.tell_repetitions.Tie as tie
 
 abbrev Inv-loop : tie.InvT-loop
-Inv-loop stack depth i₀ t5 t6 t7 i = Unit {0}
+Inv-loop stack depth i₀ i = Unit {0}
 
 abbrev μ-loop : tie.MeasureT-loop
-μ-loop stack depth i₀ t5 t6 t7 i = depth - i
+μ-loop stack depth i₀ i = depth - i
 
 loop-holds : tie.Need-loop-holds Inv-loop μ-loop
 loop-holds c = search needs
@@ -19,32 +19,8 @@ loop-holds c = search needs
 repetition-of-requires : tie.Need-repetition-of-requires Inv-loop μ-loop
 repetition-of-requires c κs = search needs
 
-slice-aggregate-say : tie.Need-slice-aggregate-say Inv-loop μ-loop
-slice-aggregate-say c = search needs
-
-say-requires : tie.Need-say-requires Inv-loop μ-loop
-say-requires c κs = search needs
-
-say-number-requires : tie.Need-say-number-requires Inv-loop μ-loop
-say-number-requires c κs = search needs
-
-slice-aggregate-say-2 : tie.Need-slice-aggregate-say-2 Inv-loop μ-loop
-slice-aggregate-say-2 c = search needs
-
-say-requires-2 : tie.Need-say-requires-2 Inv-loop μ-loop
-say-requires-2 c κs = search needs
-
-say-number-requires-2 : tie.Need-say-number-requires-2 Inv-loop μ-loop
-say-number-requires-2 c κs = search needs
-
-slice-aggregate-say-3 : tie.Need-slice-aggregate-say-3 Inv-loop μ-loop
-slice-aggregate-say-3 c = search needs
-
-say-requires-3 : tie.Need-say-requires-3 Inv-loop μ-loop
-say-requires-3 c κs = search needs
-
-say-number-requires-3 : tie.Need-say-number-requires-3 Inv-loop μ-loop
-say-number-requires-3 c κs = search needs
+tell-repetition-requires : tie.Need-tell-repetition-requires Inv-loop μ-loop
+tell-repetition-requires c κs = search needs
 
 add-i : tie.Need-add-i Inv-loop μ-loop
 add-i c = search needs
@@ -66,15 +42,7 @@ tell-repetitions-spec =
     μ-loop
     loop-holds
     repetition-of-requires
-    slice-aggregate-say
-    say-requires
-    say-number-requires
-    slice-aggregate-say-2
-    say-requires-2
-    say-number-requires-2
-    slice-aggregate-say-3
-    say-requires-3
-    say-number-requires-3
+    tell-repetition-requires
     add-i
     loop-less
     loop-again
