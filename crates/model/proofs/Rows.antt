@@ -35,6 +35,9 @@ module _ (k : ℕ) (f : ℕ → List ℕ) (pieces : (r : ℕ) → length (f r) �
 
 -- ---- rows
 
+pub same-row : {a b c x z p : ℕ} → a ≡ x → b ≡ z → c ≡ p → _≡_ {A = Row} (record { x = a; z = b; phase = c }) (record { x = x; z = z; phase = p })
+same-row ea eb ec = cc
+
 module _ (n : ℕ) (f : Row → Row) (rows : List ℕ) where
   pub mapRows-length : length (mapRows n f rows) ≡ 3 * (2 * n)
   unfolding mapRows
@@ -55,8 +58,4 @@ module _ (n : ℕ) (f : Row → Row) (rows : List ℕ) where
   mapRows-phase r h = mapRows-word r 2 h (omega arith)
 
   pub mapRows-row : (r : ℕ) → r < 2 * n → rowAt (mapRows n f rows) r ≡ f (rowAt rows r)
-  mapRows-row r h =
-      let phase = phaseAt (mapRows n f rows) r in
-      let made = f (rowAt rows r) in
-      ap₂ (λ (x z : ℕ). record { x = x; z = z; phase = phase }) (mapRows-x r h) (mapRows-z r h)
-      ∙ ap (λ (p : ℕ). record { x = made .x; z = made .z; phase = p }) (mapRows-phase r h)
+  mapRows-row r h = same-row (mapRows-x r h) (mapRows-z r h) (mapRows-phase r h)

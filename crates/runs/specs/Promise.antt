@@ -1,5 +1,7 @@
--- Demand 3 as a promise of compiled code: what comes back of a run from a start on, said by the list kept without keys. The engine's
--- definitions do not occur here; what the calls gave is read from the records and the text. Assumes nothing.
+-- Demand 3 as a promise of compiled code: what comes back of a run from a start on, said by the list kept without keys. What the calls
+-- gave is read from the records and the text. The engine's step, its walk over keys and its rule for the flag do not occur here; how words
+-- are read as entries, which keys are worked out from these, and what a start gives is said by definitions that the two share. Assumes
+-- nothing.
 use Prim.Native.Nat.{ℕ}
 use mathlib.Core.Path.{_≡_}
 use mathlib.Core.Bool.{Bool, true, false}

@@ -20,9 +20,9 @@ use Rattle.model.specs.Sheet.{Sheet, sheetText}
 use Rattle.model.specs.Table.{tableWords, pickPlace}
 use Rattle.model.specs.Numbers.{Test, gives, firstOf, someNotBelow, drawSound}
 use Rattle.model.specs.Keyless.{bareWeighed, keyless, clashesAll, clashesBy}
-use Rattle.model.specs.Calls.{Call, noise, reset, gate, truncate, normalise, table, pick, sheet, view, Sum, Outcome, tests, argumentTests, unless, changedTo, act, engine, kindOf, rebuiltEntries, rebuilt, dirtyAfter, wordsAfter, splitBy, testedBy}
+use Rattle.model.specs.Calls.{Call, noise, reset, gate, truncate, normalise, table, pick, sheet, view, Sum, Outcome, tests, argumentTests, unless, changedTo, act, engine, kindOf, rebuiltEntries, rebuilt, wordsAfter, splitBy, testedBy}
 use Rattle.model.specs.declared.Gate.{Gate}
-use Rattle.model.specs.Demand3.{withoutKeys}
+use Rattle.model.specs.Demand3.{withoutKeys, flagLeft}
 use Rattle.model.proofs.Demand3.Lists.{map-same, map-twice, tallyMap, empty-map, one-map}
 use Rattle.model.proofs.Demand3.Weights.{Keeps, normalised-map, truncated-map}
 use Rattle.model.proofs.Demand3.Merge.{own-keeps, tested-same}
@@ -56,7 +56,7 @@ worked c m dirty es = rebuilt (kindOf c) dirty (stored m es)
 
 pub record SameOutcome (c : Call) (m : Sum Entry) (dirty : Bool) (es : List Keyed) (o : Outcome Keyed) (p : Outcome Entry) : Type 0 where
   pub content : map strip (o .tally .entries) ≡ p .tally .entries
-  pub keys : dirtyAfter (kindOf c) dirty ≡ false → o .tally .entries ≡ map (own m) (p .tally .entries)
+  pub keys : flagLeft c dirty ≡ false → o .tally .entries ≡ map (own m) (p .tally .entries)
   pub merged : o .tally .merged ≡ p .tally .merged
   pub stored : o .tally .stored ≡ p .tally .stored
   pub dropped : o .tally .dropped ≡ p .tally .dropped
@@ -181,7 +181,7 @@ module _ (m : Sum Entry) where
     turned-same f (x ∷ l) = ap (λ (r : List Entry). turned bareWeighed (m .size .n) f (strip x) ∷ r) (turned-same f l)
 
     gate-acts : (f : Gate) → Same (gate f) m dirty es (act engine (gate f) (worked (gate f) m dirty es)) (act keyless (gate f) m)
-    unfolding act withoutKeys wordsAfter kindOf rebuilt dirtyAfter testedBy splitBy testedAll howMany clashesBy clashesAll
+    unfolding act withoutKeys wordsAfter kindOf rebuilt flagLeft testedBy splitBy testedAll howMany clashesBy clashesAll
     gate-acts f =
         both-done (record {
           content = turned-same f es ∙ ap (map (turned bareWeighed (m .size .n) f)) (g .content);
@@ -225,7 +225,7 @@ module _ (m : Sum Entry) where
         (λ d. ap (normalised keyedWeighed) (g .keys d) ∙ normalised-map (own-keeps usualSalts (m .size .n)) (m .entries))
 
     -- a call that merges nothing and gives a list
-    listed-acts : (c : Call) → withoutKeys c [] ≡ [] → dirtyAfter (kindOf c) dirty ≡ dirty
+    listed-acts : (c : Call) → withoutKeys c [] ≡ [] → flagLeft c dirty ≡ dirty
         → howMany (testedBy c (worked c m dirty es)) ≡ 0 + clashesBy usualSalts c m → ((l : List Keyed) → wordsAfter (kindOf c) (m .size) (pack (m .size) es) l ≡ pack (m .size) l)
         → {a : Result (List Keyed)} {b : Result (List Entry)} → SameList a b → Same c m dirty es (mapResult (λ l. changedTo (begun l)) a) (mapResult (λ l. changedTo (begun l)) b)
     unfolding mapResult
@@ -244,17 +244,17 @@ module _ (m : Sum Entry) where
     listed-acts c o f n w neither = both-refused
 
     truncate-acts : Same truncate m dirty es (act engine truncate (worked truncate m dirty es)) (act keyless truncate m)
-    unfolding act withoutKeys wordsAfter kindOf rebuilt dirtyAfter testedBy splitBy testedAll howMany clashesBy clashesAll
+    unfolding act withoutKeys wordsAfter kindOf rebuilt flagLeft testedBy splitBy testedAll howMany clashesBy clashesAll
     truncate-acts = listed-acts truncate refl refl refl (λ l. refl) truncated-same
 
     normalise-acts : Same normalise m dirty es (act engine normalise (worked normalise m dirty es)) (act keyless normalise m)
-    unfolding act withoutKeys wordsAfter kindOf rebuilt dirtyAfter testedBy splitBy testedAll howMany clashesBy clashesAll
+    unfolding act withoutKeys wordsAfter kindOf rebuilt flagLeft testedBy splitBy testedAll howMany clashesBy clashesAll
     normalise-acts = listed-acts normalise refl refl refl (λ l. refl) normalised-same
 
     -- ---- tables, picks, sheets and views only look
 
     -- what is seen: place and output
-    looks : (c : Call) → dirtyAfter (kindOf c) dirty ≡ dirty
+    looks : (c : Call) → flagLeft c dirty ≡ dirty
         → howMany (testedBy c (worked c m dirty es)) ≡ 0 + clashesBy usualSalts c m → wordsAfter (kindOf c) (m .size) (pack (m .size) es) es ≡ pack (m .size) es
         → (i j : ℕ) (v w : List ℕ) → i ≡ j → withoutKeys c v ≡ w
         → Same c m dirty es (done (record { tally = begun es; place = i; output = v })) (done (record { tally = begun (m .entries); place = j; output = w }))
@@ -283,21 +283,21 @@ module _ (m : Sum Entry) where
     empty-same = sym (empty-map strip es) ∙ ap isEmpty (g .content)
 
     table-acts : (room : ℕ) → Same (table room) m dirty es (act engine (table room) (worked (table room) m dirty es)) (act keyless (table room) m)
-    unfolding act withoutKeys wordsAfter kindOf rebuilt dirtyAfter testedBy splitBy testedAll howMany clashesBy clashesAll
+    unfolding act withoutKeys wordsAfter kindOf rebuilt flagLeft testedBy splitBy testedAll howMany clashesBy clashesAll
     table-acts room =
         rw (count-is m dirty es g, empty-same)
         (same-unless (gives 8 (ltb room (2 * length (m .entries))) ∷ gives 9 (isEmpty (m .entries)) ∷ [])
         (λ _. looks (table room) refl refl refl 0 0 _ _ refl (ap tableWords bare-same)))
 
     pick-acts : (draw : Float) → Same (pick draw) m dirty es (act engine (pick draw) (worked (pick draw) m dirty es)) (act keyless (pick draw) m)
-    unfolding act withoutKeys wordsAfter kindOf rebuilt dirtyAfter testedBy splitBy testedAll howMany clashesBy clashesAll
+    unfolding act withoutKeys wordsAfter kindOf rebuilt flagLeft testedBy splitBy testedAll howMany clashesBy clashesAll
     pick-acts draw =
         rw empty-same
         (same-unless (gives 9 (isEmpty (m .entries)) ∷ gives 10 (not (drawSound draw)) ∷ [])
         (λ _. looks (pick draw) refl refl refl _ _ [] [] (ap (pickPlace draw) bare-same) refl))
 
     sheet-acts : (room : ℕ) → Same (sheet room) m dirty es (act engine (sheet room) (worked (sheet room) m dirty es)) (act keyless (sheet room) m)
-    unfolding act withoutKeys wordsAfter kindOf rebuilt dirtyAfter testedBy splitBy testedAll howMany clashesBy clashesAll
+    unfolding act withoutKeys wordsAfter kindOf rebuilt flagLeft testedBy splitBy testedAll howMany clashesBy clashesAll
     sheet-acts room =
         rw sheet-same
         (same-unless (gives 8 (ltb room (length (sheetText _))) ∷ []) (λ _. looks (sheet room) refl refl refl 0 0 _ _ refl refl))
@@ -309,7 +309,7 @@ module _ (m : Sum Entry) where
     shown-same (x ∷ l) = refl
 
     view-acts : (place : ℕ) → Same (view place) m dirty es (act engine (view place) (worked (view place) m dirty es)) (act keyless (view place) m)
-    unfolding act withoutKeys wordsAfter kindOf rebuilt dirtyAfter testedBy splitBy testedAll howMany clashesBy clashesAll
+    unfolding act withoutKeys wordsAfter kindOf rebuilt flagLeft testedBy splitBy testedAll howMany clashesBy clashesAll
     view-acts place =
         looks (view place) refl refl refl 0 0 _ _ refl
         (shown-same (drop place es)

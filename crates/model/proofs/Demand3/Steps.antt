@@ -8,9 +8,9 @@ use Rattle.model.specs.Entries.{Entry, Keyed}
 use Rattle.model.specs.Sum.{Result, done, refused}
 use Rattle.model.specs.Numbers.{Test}
 use Rattle.model.specs.Keyless.{keyless, keylessStep}
-use Rattle.model.specs.Calls.{Call, noise, reset, gate, truncate, normalise, table, pick, sheet, view, Sum, Outcome, tests, unless, bare, act, performed, engine, kindOf, dirtyAfter, Left, plainAnswer, accepted, left, shape, padded, step}
+use Rattle.model.specs.Calls.{Call, noise, reset, gate, truncate, normalise, table, pick, sheet, view, Sum, Outcome, tests, unless, bare, act, performed, held, engine, kindOf, dirtyAfter, Left, plainAnswer, headerWith, accepted, left, shape, padded, step}
 use Rattle.model.proofs.Steps.{unless-none, bare-rebuilt, size-rebuilt}
-use Rattle.model.specs.Demand3.{next, keylessNext, withoutKeys, shownBy, keylessShown, comparisons, flagBy}
+use Rattle.model.specs.Demand3.{next, keylessNext, withoutKeys, shownBy, keylessShown, comparisons, flagLeft, flagBy}
 use Rattle.model.proofs.Demand3.Lists.{map-same}
 use Rattle.model.proofs.Demand3.Room.{Held, Yields, given, yields-unless, act-held}
 use Rattle.model.proofs.Demand3.States.{state, Good, listed-is, padded-is, shape-is}
@@ -36,6 +36,19 @@ nothing-shown (table room) = refl
 nothing-shown (pick draw) = refl
 nothing-shown (sheet room) = refl
 nothing-shown (view place) = refl
+
+-- the flag that the engine leaves is document 01's
+flag-is : (c : Call) (dirty : Bool) → dirtyAfter (kindOf c) dirty ≡ flagLeft c dirty
+unfolding dirtyAfter kindOf flagLeft
+flag-is (noise c) dirty = refl
+flag-is (reset q) dirty = refl
+flag-is (gate f) dirty = refl
+flag-is truncate dirty = refl
+flag-is normalise dirty = refl
+flag-is (table room) dirty = refl
+flag-is (pick draw) dirty = refl
+flag-is (sheet room) dirty = refl
+flag-is (view place) dirty = refl
 
 module _ (c : Call) (m : Sum Entry) (dirty : Bool) (es : List Keyed) (g : Good m dirty es) where
   abbrev sum : Sum Keyed
@@ -75,8 +88,8 @@ module _ (c : Call) (m : Sum Entry) (dirty : Bool) (es : List Keyed) (g : Good m
       record {
         after = o .tally .entries;
         next-is =
-            ap (λ (w : List ℕ). record { header = record { size = m .size; count = length (o .tally .entries); threshold = m .threshold; cutoff = m .cutoff; dirty = dirtyAfter (kindOf c) dirty }; words = w })
-            (s .words);
+            ap₂ (λ (d : Bool) (w : List ℕ). held (headerWith (state m dirty es .header) (length (o .tally .entries)) d) w)
+            (flag-is c dirty) (s .words);
         good = record { size = g .size; bounds = g .bounds; held = h; content = s .content; keys = s .keys };
         shown = rw (s .merged, s .stored, s .dropped, s .place, s .output);
         compared = s .compared;
