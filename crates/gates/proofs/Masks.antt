@@ -2,7 +2,7 @@
 use mathlib.Core.Path.{_≡_, refl, sym, ap, ap₂, _∙_}
 use mathlib.Core.List.{List, [], _∷_, _++_}
 use Prim.Native.Nat.{ℕ, zero, suc, _+_, _*_, _-_, _/_, _%_, _^_, _<_}
-use native.Mathlib.Nat.{zero-mul, one-mul, mul-zero, mul-one, zero-div}
+use native.Mathlib.Nat.{zero-mul, one-mul, mul-zero, mul-one}
 use native.Mathlib.Omega.{arith}
 use lib.Bits.{bitAnd, bitXor, and-comm, and-zero-r, and-shr, and-mod, and-high}
 use lib.ListN.{length, take, drop, getD, set}
@@ -13,7 +13,7 @@ use Rattle.model.specs.Entries.{Row, rowAt, rowWords, rowsBelow}
 use Rattle.model.specs.Keys.{bit, pick}
 use Rattle.model.specs.Gates.{turnedRow}
 use Rattle.model.specs.declared.Gate.the-variants.{H, S, Cnot}
-use Rattle.model.proofs.Picks.{pick-set, bit-lt, bit-xor, bit-pow-same}
+use Rattle.model.proofs.Picks.{pick-set, bit-lt, bit-xor, bit-pow-same, bit-picked}
 use Rattle.gates.proofs.Rows.{Three, three}
 
 -- ---- what a mask takes
@@ -47,16 +47,6 @@ and-bits (suc (suc a)) b h k = absurd (omega arith)
 
 bit-and : (q a b : ℕ) → bit q (bitAnd a b) ≡ bit q a * bit q b
 bit-and q a b = ap (λ (x : ℕ). x % 2) (and-shr a b q) ∙ and-mod (a / 2 ^ q) (b / 2 ^ q) 1 ∙ and-bits (bit q a) (bit q b) (bit-lt q a) (bit-lt q b)
-
--- a bit that is picked stands at its place
-pub bit-none : (q : ℕ) → bit q 0 ≡ 0
-bit-none q = ap (λ (x : ℕ). x % 2) (zero-div (2 ^ q))
-
-pub bit-picked : (q b : ℕ) → b < 2 → bit q (pick b (2 ^ q)) ≡ b
-unfolding pick
-bit-picked q zero h = bit-none q
-bit-picked q (suc zero) h = bit-pow-same q
-bit-picked q (suc (suc b)) h = absurd (omega arith)
 
 -- a word masked by a bit that is picked, or by two
 masked-once : (w q b m : ℕ) → b < 2 → pick (bitAnd w (pick b (2 ^ q))) m ≡ pick (b * bit q w) m

@@ -3,23 +3,23 @@
 use mathlib.Core.Path.{_≡_, refl, sym, ap, ap₂, _∙_}
 use mathlib.Core.List.{List}
 use Prim.Native.Nat.{ℕ, zero, suc, _*_, _^_, _<_}
-use native.Mathlib.Nat.{zero-mul, mul-comm}
+use native.Mathlib.Nat.{zero-mul}
 use native.Mathlib.Omega.{arith}
-use lib.Bits.{bitXor, xor-comm, xor-lt, xor-zero-r}
+use lib.Bits.{bitXor, xor-zero-r}
 use lib.ListN.{length}
 use lib.Seq.{take-all}
-use Rattle.model.proofs.Xor.{xor-assoc, xor-cancel, xor-cancel-left, xor-swap}
+use Rattle.model.proofs.Xor.{xor-cancel, xor-swap}
 use Rattle.model.specs.Entries.{Row, rowAt, rowsBelow, mapRows}
 use Rattle.model.specs.Keys.{bit, pick}
 use Rattle.model.specs.Changes.{flips, flipsBy, flippedRow}
-use Rattle.model.specs.Gates.{xorBit, xorSign, turnedRow}
+use Rattle.model.specs.Gates.{xorBit, turnedRow}
 use Rattle.model.specs.declared.BranchMutation.the-variants.{Pauli as pauli}
 use Rattle.model.specs.declared.Gate.the-variants.{H, S, Cnot}
 use Rattle.model.specs.declared.Pauli.the-variants.{Z}
-use Rattle.model.proofs.Picks.{bit-lt, bit-xor, pick-bits, bit-pow-other}
-use Rattle.model.proofs.Rows.{mapRows-row}
-use Rattle.gates.proofs.Masks.{bit-none, bit-picked}
-use Rattle.gates.proofs.Rows.{product-lt, same-row, rows-ext, own-rows}
+use Rattle.model.proofs.Picks.{bit-lt, bit-xor, bit-none, bit-pow-other}
+use Rattle.model.proofs.Rows.{same-row, mapRows-row}
+use Rattle.model.proofs.Paulis.{turnedBy, bit-flipped, undone, h-undoes, z-is}
+use Rattle.gates.proofs.Rows.{rows-ext, own-rows}
 
 -- f done k times
 unfoldable pub repeated : {X : Type 0} → ℕ → (X → X) → X → X
@@ -33,35 +33,15 @@ unfolding pick
 bit-unpicked j q zero ne = bit-none j
 bit-unpicked j q (suc b) ne = bit-pow-other j q ne
 
-module _ (w q b : ℕ) where
-  -- bit q is XORed with b, any other is as it was
-  bit-flipped : b < 2 → bit q (xorBit w q b) ≡ bitXor (bit q w) b
-  bit-flipped h = bit-xor q w (pick b (2 ^ q)) ∙ ap (bitXor (bit q w)) (bit-picked q b h)
-
-  bit-kept : (j : ℕ) → (j ≡ q → ⊥) → bit j (xorBit w q b) ≡ bit j w
-  bit-kept j ne = bit-xor j w (pick b (2 ^ q)) ∙ ap (bitXor (bit j w)) (bit-unpicked j q b ne) ∙ xor-zero-r (bit j w)
-
-  -- twice with the same bit is not at all
-  undone : (c : ℕ) → c ≡ b → xorBit (xorBit w q b) q c ≡ w
-  undone c e = ap (xorBit (xorBit w q b) q) e ∙ xor-cancel w (pick b (2 ^ q))
-
-  -- with two bits is with their XOR
-  joined-bits : (c : ℕ) → b < 2 → c < 2 → xorBit (xorBit w q b) q c ≡ xorBit w q (bitXor b c)
-  joined-bits c h k = xor-assoc w (pick b (2 ^ q)) (pick c (2 ^ q)) ∙ ap (bitXor w) (sym (pick-bits b c (2 ^ q) h k))
+-- a bit other than bit q is as it was
+bit-kept : (w q b j : ℕ) → (j ≡ q → ⊥) → bit j (xorBit w q b) ≡ bit j w
+bit-kept w q b j ne = bit-xor j w (pick b (2 ^ q)) ∙ ap (bitXor (bit j w)) (bit-unpicked j q b ne) ∙ xor-zero-r (bit j w)
 
 -- ---- H
 
 pub h-twice : (q : ℕ) (r : Row) → repeated 2 (turnedRow (H q)) r ≡ r
-unfolding repeated turnedRow
-h-twice q r =
-    let x = bit q (r .x) in
-    let z = bit q (r .z) in
-    let d : bitXor x z < 2 = xor-lt 1 x z (bit-lt q (r .x)) (bit-lt q (r .z)) in
-    -- x and z are exchanged
-    let x′ : bit q (xorBit (r .x) q (bitXor x z)) ≡ z = bit-flipped (r .x) q (bitXor x z) d ∙ xor-cancel-left x z in
-    let z′ : bit q (xorBit (r .z) q (bitXor x z)) ≡ x = bit-flipped (r .z) q (bitXor x z) d ∙ ap (bitXor z) (xor-comm x z) ∙ xor-cancel-left z x in
-    let same : bitXor (bit q (xorBit (r .x) q (bitXor x z))) (bit q (xorBit (r .z) q (bitXor x z))) ≡ bitXor x z = ap₂ bitXor x′ z′ ∙ xor-comm z x in
-    same-row (undone (r .x) q (bitXor x z) _ same) (undone (r .z) q (bitXor x z) _ same) (undone (r .phase) 1 (x * z) _ (ap₂ _*_ x′ z′ ∙ mul-comm z x))
+unfolding repeated turnedBy
+h-twice q r = h-undoes q r
 
 pub h-four : (q : ℕ) (r : Row) → repeated 4 (turnedRow (H q)) r ≡ r
 unfolding repeated
@@ -69,37 +49,14 @@ h-four q r = h-twice q (repeated 2 (turnedRow (H q)) r) ∙ h-twice q r
 
 -- ---- S
 
--- the two signs of S twice: together the bit x
-own-bit : (x z : ℕ) → x < 2 → z < 2 → bitXor (x * z) (x * bitXor z x) ≡ x
-own-bit zero zero h k = refl
-own-bit zero (suc zero) h k = refl
-own-bit zero (suc (suc z)) h k = absurd (omega arith)
-own-bit (suc zero) zero h k = refl
-own-bit (suc zero) (suc zero) h k = refl
-own-bit (suc zero) (suc (suc z)) h k = absurd (omega arith)
-own-bit (suc (suc x)) z h k = absurd (omega arith)
-
--- S twice is Z
-pub s-twice : (q : ℕ) (r : Row) → repeated 2 (turnedRow (S q)) r ≡ flippedRow (pauli Z q) r
-unfolding repeated turnedRow flippedRow flipsBy flips
-s-twice q r =
-    let x = bit q (r .x) in
-    let z = bit q (r .z) in
-    let lx = bit-lt q (r .x) in
-    let lz = bit-lt q (r .z) in
-    let z′ : bit q (xorBit (r .z) q x) ≡ bitXor z x = bit-flipped (r .z) q x lx in
-    same-row refl (undone (r .z) q x x refl)
-    (ap (λ (d : ℕ). xorSign (xorSign (r .phase) (x * z)) (x * d)) z′
-    ∙ joined-bits (r .phase) 1 (x * z) (x * bitXor z x) (product-lt x z lx lz) (product-lt x (bitXor z x) lx (xor-lt 1 z x lz lx))
-    ∙ ap (xorSign (r .phase)) (own-bit x z lx lz))
-
 z-twice : (q : ℕ) (r : Row) → flippedRow (pauli Z q) (flippedRow (pauli Z q) r) ≡ r
 unfolding flippedRow flipsBy flips
 z-twice q r = same-row refl refl (xor-cancel (r .phase) (pick (bit q (r .x)) 2))
 
+-- S twice is Z
 pub s-four : (q : ℕ) (r : Row) → repeated 4 (turnedRow (S q)) r ≡ r
-unfolding repeated
-s-four q r = s-twice q (repeated 2 (turnedRow (S q)) r) ∙ ap (flippedRow (pauli Z q)) (s-twice q r) ∙ z-twice q r
+unfolding repeated turnedBy
+s-four q r = z-is q (repeated 2 (turnedRow (S q)) r) ∙ ap (flippedRow (pauli Z q)) (z-is q r) ∙ z-twice q r
 
 -- ---- CNOT
 

@@ -2,22 +2,14 @@
 use mathlib.Core.Path.{_≡_, refl, sym, ap, ap₂, _∙_}
 use mathlib.Core.List.{List, [], _∷_, _++_, append-assoc, append-nil}
 use Prim.Native.Nat.{ℕ, zero, suc, _+_, _*_, _-_, _<_, _≤_}
-use native.Mathlib.Nat.{mul-le-mul, le-antisymm, suc-mul}
+use native.Mathlib.Nat.{le-antisymm, suc-mul}
 use native.Mathlib.Omega.{arith}
 use lib.ListN.{length, take, drop, getD, length-append, length-drop, drop-of-length-le}
 use lib.Seq.{take-at, take-add, length-take-le, drop-at, drop-drop, getD-take, getD-drop}
 use Rattle.model.specs.Lists.{wordsBelow}
 use Rattle.model.specs.Entries.{Row, rowAt, rowWords, rowsBelow}
 use Rattle.model.proofs.Groups.{lent}
-use Rattle.model.proofs.Rows.{wordsBelow-length}
-
--- a product of two bits is a bit
-pub product-lt : (a b : ℕ) → a < 2 → b < 2 → a * b < 2
-product-lt a b ha hb =
-    let h : a ≤ 1 = omega arith in
-    let k : b ≤ 1 = omega arith in
-    let l : a * b ≤ 1 * 1 = mul-le-mul h k in
-    omega arith
+use Rattle.model.proofs.Rows.{wordsBelow-length, same-row}
 
 -- a row's words
 pub data Three : List ℕ → Type 0 where
@@ -31,9 +23,6 @@ three-words (a ∷ b ∷ c ∷ []) e = three a b c
 three-words (a ∷ b ∷ c ∷ d ∷ l) e = absurd (omega arith)
 
 -- ---- rows
-
-pub same-row : {a b c x z p : ℕ} → a ≡ x → b ≡ z → c ≡ p → _≡_ {A = Row} (record { x = a; z = b; phase = c }) (record { x = x; z = z; phase = p })
-same-row ea eb ec = cc
 
 -- row r of a part that begins where row i − r does
 pub part-row : (l : List ℕ) (at k i r : ℕ) → 3 * r + 3 ≤ k → at + 3 * r ≡ 3 * i → rowAt (take k (drop at l)) r ≡ rowAt l i

@@ -5,7 +5,7 @@ use mathlib.Core.List.{List, [], _∷_}
 use Prim.Native.Nat.{ℕ, zero, suc, _*_, _^_, _<_}
 use native.Mathlib.Nat.{mul-comm}
 use native.Mathlib.Omega.{arith}
-use lib.Bits.{bitXor, xor-comm, xor-lt}
+use lib.Bits.{bitXor, xor-comm, xor-lt, xor-zero-r}
 use Rattle.model.specs.Entries.{Row}
 use Rattle.model.specs.Keys.{bit, pick}
 use Rattle.model.specs.Changes.{flips, flipsBy, flippedRow}
@@ -27,11 +27,11 @@ turnedBy (g ∷ gs) r = turnedBy gs (turnedRow g r)
 
 module _ (w q b : ℕ) where
   -- bit q is XORed with b
-  bit-flipped : b < 2 → bit q (xorBit w q b) ≡ bitXor (bit q w) b
+  pub bit-flipped : b < 2 → bit q (xorBit w q b) ≡ bitXor (bit q w) b
   bit-flipped h = bit-xor q w (pick b (2 ^ q)) ∙ ap (bitXor (bit q w)) (bit-picked q b h)
 
   -- twice with the same bit is not at all
-  undone : (c : ℕ) → c ≡ b → xorBit (xorBit w q b) q c ≡ w
+  pub undone : (c : ℕ) → c ≡ b → xorBit (xorBit w q b) q c ≡ w
   undone c e = ap (xorBit (xorBit w q b) q) e ∙ xor-cancel w (pick b (2 ^ q))
 
   -- with two bits is with their XOR
@@ -101,6 +101,13 @@ module _ (q : ℕ) (r : Row) where
       let sign : bit q (after-h d .x) * bit q (after-h d .z) ≡ x * z = ap₂ _*_ h-x h-z ∙ mul-comm z x in
       same-row (undone (r .x) q differ _ same) (undone (r .z) q differ _ same)
       (xor-last (xorSign (r .phase) (x * z)) d _ ∙ ap (λ (p : ℕ). bitXor p d) (undone (r .phase) 1 (x * z) _ sign))
+
+  pub h-undoes : turnedBy (H q ∷ H q ∷ []) r ≡ r
+  unfolding turnedBy turnedRow
+  h-undoes =
+      ap (λ (p : ℕ). turnedRow (H q) (record { x = after-h 0 .x; z = after-h 0 .z; phase = p }))
+      (sym (xor-zero-r (xorSign (r .phase) (x * z))))
+      ∙ h-again 0 ∙ same-row refl refl (xor-zero-r (r .phase))
 
   -- H, S, S, H is X
   pub x-is : turnedBy (H q ∷ S q ∷ S q ∷ H q ∷ []) r ≡ flippedRow (pauli X q) r

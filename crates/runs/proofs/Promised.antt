@@ -9,11 +9,11 @@ use borrow.Author.Tests.{eq-eqb, ne-eqb}
 use Rattle.model.specs.Entries.{Entry}
 use Rattle.model.specs.Sum.{Result, done, refused, mapResult}
 use Rattle.model.specs.Sheet.{Sheet}
-use Rattle.model.specs.Calls.{Call, Sum, Lent, held, Left, gave, plainAnswer, zeroHeader, Start, begins, startDirty, leftBy, start}
+use Rattle.model.specs.Calls.{Call, Sum, Lent, held, Left, gave, plainAnswer, zeroHeader, Start, begins, leftBy, start}
 use Rattle.model.specs.Keyless.{sheetSum, keylessStart}
 use Rattle.model.specs.declared.Answer.{Answer}
 use Rattle.perform.specs.Records.{recordWords}
-use Rattle.model.specs.Demand3.{next, flagAfter, Agree, Begins, Demand3}
+use Rattle.model.specs.Demand3.{next, flagBegun, flagAfter, Agree, Begins, Demand3}
 use Rattle.model.proofs.Demand3.{demand-3}
 use Rattle.runs.specs.Runs.{groupsIn, callsIn, fits, Came, untouched, ranAll, ranAfter, ranFrom}
 use Rattle.runs.specs.Promise.{Agreed, Begun, PromiseIf, Promise}
@@ -49,7 +49,7 @@ module _ (bytes : ℕ) (calls : List ℕ) (b : Start) (w log text : List ℕ) wh
   -- ---- the promise
 
   -- what agrees of the definitions agrees of what came back
-  agreed : (m : Sum Entry) (x : Lent) → Fitting bytes calls (length log) (length text) → x .header .dirty ≡ startDirty b → Agree cs x m → Agreed bytes cs m (startDirty b) (ranAll bytes cs x log text)
+  agreed : (m : Sum Entry) (x : Lent) → Fitting bytes calls (length log) (length text) → x .header .dirty ≡ flagBegun b → Agree cs x m → Agreed bytes cs m (flagBegun b) (ranAll bytes cs x log text)
   agreed m x f d a =
       let n = groups-many calls in
       let p : length (groupsIn calls) * recordWords ≤ length log = rw n (f .records) in
@@ -74,7 +74,7 @@ module _ (bytes : ℕ) (calls : List ℕ) (b : Start) (w log text : List ℕ) wh
       record { not-0 = z; all = p ∙ ap (λ (l : Left). ranAfter bytes cs l log text) e ∙ after-refused bytes cs (leftBy b w (refused n)) log text z }
   begun (done t) f e (k, d, a) p =
       let x = next (start b w) in
-      subst (Agreed bytes cs (sheetSum t) (startDirty b)) (sym (p ∙ after-done bytes cs (start b w) log text k)) (agreed (sheetSum t) x f d (a cs))
+      subst (Agreed bytes cs (sheetSum t) (flagBegun b)) (sym (p ∙ after-done bytes cs (start b w) log text k)) (agreed (sheetSum t) x f d (a cs))
 
   pub promised : {o : Came} → o ≡ ranFrom bytes calls b w log text → Promise bytes calls b w log text o
   unfolding Promise ranFrom PromiseIf keylessStart start Demand3

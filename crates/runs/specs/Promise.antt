@@ -1,7 +1,7 @@
--- Demand 3 as a promise of compiled code: what comes back of a run from a start on, said by the list kept without keys. What the calls
--- gave is read from the records and the text. The engine's step, its walk over keys and its rule for the flag do not occur here; how words
--- are read as entries, which keys are worked out from these, and what a start gives is said by definitions that the two share. Assumes
--- nothing.
+-- Demand 3 as a promise of compiled code: what comes back of a run from a start on, said by the list kept without keys. What the calls gave
+-- is read from the records and the text. The engine's start and step, its walk over keys and its rule for the flag do not occur here; it
+-- shares with this promise how words are read as entries (`sumOf`), the keys worked out from them (`rebuiltEntries`), and the header of a
+-- refused start (`zeroHeader`). Assumes nothing.
 use Prim.Native.Nat.{ℕ}
 use mathlib.Core.Path.{_≡_}
 use mathlib.Core.Bool.{Bool, true, false}
@@ -9,10 +9,10 @@ use mathlib.Core.List.{List, [], _∷_, map}
 use lib.ListN.{length, take, drop, getD}
 use Rattle.model.specs.Entries.{Entry, strip}
 use Rattle.model.specs.Sum.{Result, done, refused}
-use Rattle.model.specs.Calls.{Call, noise, reset, gate, truncate, normalise, table, pick, sheet, view, Sum, held, sumOf, rebuiltEntries, Start, startDirty, zeroHeader}
+use Rattle.model.specs.Calls.{Call, noise, reset, gate, truncate, normalise, table, pick, sheet, view, Sum, held, sumOf, rebuiltEntries, Start, zeroHeader}
 use Rattle.model.specs.Keyless.{keylessStart}
 use Rattle.perform.specs.Records.{numberWords, recordWords}
-use Rattle.model.specs.Demand3.{keylessAfter, Shown, withoutKeys, allKeylessShown, allComparisons, flagAfter}
+use Rattle.model.specs.Demand3.{keylessAfter, Shown, withoutKeys, allKeylessShown, allComparisons, flagBegun, flagAfter}
 use Rattle.runs.specs.Runs.{Came, untouched, fits, callsIn}
 
 -- ---- what is read from a call's record and its stretch of text
@@ -76,7 +76,7 @@ pub record Refused (n : ℕ) (w log text : List ℕ) (o : Came) : Type 0 where
 
 unfoldable pub Begun : ℕ → List Call → Start → List ℕ → List ℕ → List ℕ → Came → Result (Sum Entry) → Type 0
 Begun bytes cs b w log text o (refused n) = Refused n w log text o
-Begun bytes cs b w log text o (done m) = Agreed bytes cs m (startDirty b) o
+Begun bytes cs b w log text o (done m) = Agreed bytes cs m (flagBegun b) o
 
 unfoldable pub PromiseIf : Bool → ℕ → List Call → Start → List ℕ → List ℕ → List ℕ → Came → Type 0
 PromiseIf false bytes cs b w log text o = Refused 11 w log text o
