@@ -68,6 +68,7 @@ fn plus(a: u64, b: u64) -> u64 {
 // The byte order mark that a text begins with: how long it is, 0 if there is none.
 fn mark_length(text: &[u8]) -> usize
     ensures { λ r. ⌜ r ≡ markLength (now (text .entry)) ⌝ }
+    ensures within { λ r. ⌜ r ≤ length (now (text .entry)) ⌝ }
 {
     if 2 < text.len() {
         if text[0] == 0xEF {
@@ -157,24 +158,28 @@ fn fill_all(fd: i32, bytes: &mut [u8], offset: u64) -> Filled
     Filled { fill, ok: true }
 }
 
+// Past the mark at the start of the circuit, in a window of `fill` bytes from the offset `base` on.
+fn mark_end(bytes: &[u8], base: u64, fill: usize) -> usize
+    requires { ⌜ fill ≤ length (now bytes) ⌝ }
+    ensures { λ r. ⌜ r ≤ fill ⌝ }
+{
+    if base == 0 {
+        return mark_length(&bytes[0..fill]);
+    }
+    0
+}
+
 // The line at the start of a window that was filled anew. A byte order mark at the start of the circuit is passed over.
 fn first(bytes: &[u8], base: u64, fill: usize) -> Window
+    requires { ⌜ fill ≤ length (now bytes) ⌝ }
     ensures { λ r. ⌜ (r .from ≤ r .to) × (r .to ≤ length (now (bytes .entry))) ⌝ }
 {
-    let mut from = 0;
-    if base == 0 {
-        from = mark_length(bytes);
+    let from = mark_end(bytes, base, fill);
+    let to = bytes::scan::find(bytes, from, fill, b'\n');
+    if to == bytes.len() {
+        return stretch(base, fill, from, to, Found::TooLong);
     }
-    if fill <= bytes.len() {
-        if from <= fill {
-            let to = bytes::scan::find(bytes, from, fill, b'\n');
-            if to == bytes.len() {
-                return stretch(base, fill, from, to, Found::TooLong);
-            }
-            return stretch(base, fill, from, to, Found::Line);
-        }
-    }
-    stretch(base, 0, 0, 0, Found::Cut)
+    stretch(base, fill, from, to, Found::Line)
 }
 
 // Whether the window has all bytes that it should have: those up to the end of the circuit, or as many as it holds.

@@ -53,7 +53,7 @@ fn tell_entries(o: Outgrown, capacity: usize) {
 fn tell_raise(o: Outgrown, capacity: usize) {
     rows::say(b"; raise --cutoff");
     if 0.0 < o.cutoff {
-        rows::say(b" (this call fits with ");
+        rows::say(b" (this call fits with about ");
         rows::say_float(o.cutoff);
         rows::say(b")");
     }

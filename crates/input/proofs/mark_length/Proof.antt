@@ -15,19 +15,20 @@ shared-slice-read-if4 : tie.Need-shared-slice-read-if4
 shared-slice-read-if4 c = search needs
 
 returns : tie.Need-returns
-returns c = all-three (c .before .before .before .before .before .before .before .args .text .now) (c .before .before .before .before .if2 .taken) (c .before .before .if3 .taken) (c .if4 .taken)
+returns c =
+    (all-three (c .before .before .before .before .before .before .before .args .text .now) (omega arith) (c .before .before .before .before .if2 .taken) (c .before .before .if3 .taken) (c .if4 .taken), omega arith)
 
 returns-2 : tie.Need-returns-2
-returns-2 c = third-other (c .before .before .before .before .before .before .before .args .text .now) (c .if4 .left)
+returns-2 c = (third-other (c .before .before .before .before .before .before .before .args .text .now) (c .if4 .left), omega arith)
 
 returns-3 : tie.Need-returns-3
-returns-3 c = second-other (c .before .before .before .before .before .args .text .now) (c .if3 .left)
+returns-3 c = (second-other (c .before .before .before .before .before .args .text .now) (c .if3 .left), omega arith)
 
 returns-4 : tie.Need-returns-4
-returns-4 c = first-other (c .before .before .before .args .text .now) (c .if2 .left)
+returns-4 c = (first-other (c .before .before .before .args .text .now) (c .if2 .left), omega arith)
 
 returns-5 : tie.Need-returns-5
-returns-5 c = short (c .before .args .text .now) (λ h. absurd (omega (arith, h)))
+returns-5 c = (short (c .before .args .text .now) (omega arith), omega arith)
 
 pub mark-length-spec : {M : Type 1} → statement M
 mark-length-spec =
