@@ -1,4 +1,4 @@
-"""Calls of every kind on 256 entries with n 64, K 64, made from outputs of SplitMix64 as crates/trial (large.rt) says."""
+"""Calls of every kind on 256 entries with n 64, K 64, made from outputs of SplitMix64 as crates/test_support (large.rt) says."""
 
 import second
 from second import WORD, row_mask

@@ -567,7 +567,7 @@ def read_sheet(text, words):
     return Answer(0, header, NO_COUNTS, laid + [0] * (len(words) - len(laid)))
 
 
-PROGRAMS = ("masks_run", "replay", "list_run", "planner", "every_call")
+PROGRAMS = ("masks_run", "view_run", "replay", "list_run", "planner", "every_call")
 
 
 def main(name, given_to=None):

@@ -5,13 +5,13 @@ use Prim.Native.Nat.{ℕ, suc, _+_, _*_, _-_, _/_, _%_, _<_}
 use native.Mathlib.Numerals.{add-one}
 use native.Mathlib.Omega.{arith}
 use Rattle.model.specs.Entries.{rowAt}
-use Rattle.model.specs.Keys.{pick}
+use Rattle.model.specs.Keys.{ifSet}
 use Rattle.model.specs.Changes.{flipsBy}
 use Rattle.model.specs.declared.BranchMutation.{BranchMutation}
-use Rattle.keys.specs.Changes.{flipBits}
-use Rattle.keys.proofs.ChangeTables.{pick-times}
-use Rattle.keys.proofs.Flips.{flipsBy-lt}
-use Rattle.keys.proofs.Packed.{packed-first, packed-rest}
+use Rattle.changes.specs.Changes.{flipBits}
+use Rattle.changes.proofs.ChangeTables.{ifSet-times}
+use Rattle.changes.proofs.Flips.{flipsBy-lt}
+use Rattle.changes.proofs.Packed.{packed-first, packed-rest}
 
 module _ (m : BranchMutation) (rows : List ℕ) where
   abbrev flag : ℕ → ℕ
@@ -21,8 +21,8 @@ module _ (m : BranchMutation) (rows : List ℕ) where
   few r = flipsBy-lt m (rowAt rows r)
 
   -- a phase is XORed with twice the bit
-  pub bit-twice : (r : ℕ) {b : ℕ} → b ≡ flag r → 2 * b ≡ pick (flag r) 2
-  bit-twice r e = ap (λ (x : ℕ). 2 * x) e ∙ pick-times (flag r) 2 (few r)
+  pub bit-twice : (r : ℕ) {b : ℕ} → b ≡ flag r → 2 * b ≡ ifSet (flag r) 2
+  bit-twice r e = ap (λ (x : ℕ). 2 * x) e ∙ ifSet-times (flag r) 2 (few r)
 
   -- of those that are left from row i on, the first one, and the rest
   module _ {left : ℕ} (i many : ℕ) (h : i < many) (e : left ≡ flipBits m rows i (many - i)) where

@@ -9,14 +9,15 @@ use lib.ListN.{length, take, drop, drop-of-length-le}
 use lib.Seq.{getD-take}
 use Rattle.model.specs.Lists.{wordsBelow}
 use Rattle.model.specs.Entries.{Row, rowAt, xAt, zAt, phaseAt, rowWords, rowsBelow, mapRows}
-use Rattle.model.specs.Keys.{pick}
+use Rattle.model.specs.Keys.{usualSalts, ifSet}
 use Rattle.model.specs.Changes.{flipsBy, flippedRow}
 use Rattle.model.specs.declared.BranchMutation.{BranchMutation}
 use Rattle.model.specs.declared.BranchMutation.the-variants.{Loss as loss}
-use Rattle.keys.specs.Changes.{flipBits, lowRows}
-use Rattle.keys.specs.declared.Change.{Change}
-use Rattle.keys.proofs.Packed.{packed-ext, packed-zero}
-use Rattle.branch.specs.Flips.{flippedRows, FlipsOf}
+use Rattle.changes.specs.Changes.{flipBits, lowRows, changeOf}
+use Rattle.changes.specs.declared.Change.{Change}
+use Rattle.changes.proofs.Packed.{packed-zero}
+use Rattle.changes.proofs.Tables.{same-change}
+use Rattle.branch.specs.Flips.{flippedRows}
 use Rattle.branch.specs.Onto.{onto, part}
 use Rattle.branch.proofs.Rows.{row-first}
 use Rattle.branch.proofs.Onto.{part-length}
@@ -40,13 +41,10 @@ rows-front n f rows =
     let m = 3 * (2 * n) in
     rows-ext (λ r. f (rowAt (take m rows) r)) (λ r. f (rowAt rows r)) (2 * n) (λ r h. ap f (row-front n rows r h))
 
--- and so are their bits
-pub bits-front : (n : ℕ) (m : BranchMutation) (rows : List ℕ) (from many : ℕ) → from + many ≤ 2 * n
-    → flipBits m (take (3 * (2 * n)) rows) from many ≡ flipBits m rows from many
-unfolding flipBits
-bits-front n m rows from many h =
-    packed-ext (λ r. flipsBy m (rowAt (take (3 * (2 * n)) rows) r)) (λ r. flipsBy m (rowAt rows r)) from many
-    (λ r k l. ap (flipsBy m) (row-front n rows r (omega arith)))
+-- and so is what a mutation changes
+pub change-front : (n : ℕ) (m : BranchMutation) (rows : List ℕ) → changeOf usualSalts n m (take (3 * (2 * n)) rows) ≡ changeOf usualSalts n m rows
+change-front n m rows =
+    same-change n (take (3 * (2 * n)) rows) rows (λ r h. (ap (λ (w : Row). w .x) (row-front n rows r h), ap (λ (w : Row). w .z) (row-front n rows r h))) m
 
 -- rows taken apart and put together
 rows-whole : (rows : List ℕ) (m : ℕ) → 3 * m ≤ length rows → rowsBelow (rowAt rows) m ++ drop (3 * m) rows ≡ rows
@@ -61,8 +59,8 @@ rows-whole rows (suc m) h =
 
 -- a row that is not flipped
 row-kept : (c : BranchMutation) (r : Row) → flipsBy c r ≡ 0 → flippedRow c r ≡ r
-unfolding flippedRow pick
-row-kept c r e = ap (λ (b : ℕ). record { x = r .x; z = r .z; phase = bitXor (r .phase) (pick b 2) }) e ∙ ap (λ (p : ℕ). record { x = r .x; z = r .z; phase = p }) (xor-zero-r (r .phase))
+unfolding flippedRow ifSet
+row-kept c r e = ap (λ (b : ℕ). record { x = r .x; z = r .z; phase = bitXor (r .phase) (ifSet b 2) }) e ∙ ap (λ (p : ℕ). record { x = r .x; z = r .z; phase = p }) (xor-zero-r (r .phase))
 
 -- rows each of which stays
 rows-kept : (c : BranchMutation) (rows : List ℕ) (m : ℕ) → ((i : ℕ) → i < m → flipsBy c (rowAt rows i) ≡ 0) → length rows ≡ 3 * m
@@ -91,13 +89,13 @@ lt-or-le i zero = inr (omega arith)
 lt-or-le zero (suc k) = inl (omega arith)
 lt-or-le (suc i) (suc k) = ⊎-elim (λ (h : i < k). inl (omega arith)) (λ (h : k ≤ i). inr (omega arith)) (lt-or-le i k)
 
-module _ (n : ℕ) (m : BranchMutation) (from to : ℕ) (w : List ℕ) (c : Change) (f : FlipsOf n m (drop from w) c) (el : c .low ≡ 0) (eh : c .high ≡ 0) where
+module _ (n : ℕ) (m : BranchMutation) (from to : ℕ) (w : List ℕ) (c : Change) (f : c ≡ changeOf usualSalts n m (drop from w)) (el : c .low ≡ 0) (eh : c .high ≡ 0) where
   none-flipped : n ≤ 64 → (i : ℕ) → i < 2 * n → flipsBy m (rowAt (drop from w) i) ≡ 0
-  unfolding flipBits lowRows
+  unfolding changeOf flipBits lowRows
   none-flipped b i l =
       ⊎-elim
-      (λ (d : i < lowRows n). packed-zero (λ r. flipsBy m (rowAt (drop from w) r)) 0 (lowRows n) (sym (f .low) ∙ el) i (omega arith) (omega arith))
-      (λ (d : lowRows n ≤ i). packed-zero (λ r. flipsBy m (rowAt (drop from w) r)) (lowRows n) (2 * n - lowRows n) (sym (f .high) ∙ eh) i d (omega arith))
+      (λ (d : i < lowRows n). packed-zero (λ r. flipsBy m (rowAt (drop from w) r)) 0 (lowRows n) (sym (ap (λ (x : Change). x .low) f) ∙ el) i (omega arith) (omega arith))
+      (λ (d : lowRows n ≤ i). packed-zero (λ r. flipsBy m (rowAt (drop from w) r)) (lowRows n) (2 * n - lowRows n) (sym (ap (λ (x : Change). x .high) f) ∙ eh) i d (omega arith))
       (lt-or-le i (lowRows n))
 
   pub copied-unflipped : {l : List ℕ} → n ≤ 64 → from + 3 * (2 * n) ≤ length w → l ≡ onto to (part from (3 * (2 * n)) w) w → l ≡ onto to (mapRows n (flippedRow m) (drop from w)) w

@@ -6,13 +6,14 @@ use lib.ListN.{length}
 use Rattle.model.specs.Entries.{Keyed, entryLen, wordsOf, entryOf}
 use Rattle.model.specs.Keys.{usualSalts}
 use Rattle.model.specs.Changes.{flippedRow, changedBody, changedEntry, changedKeyed}
-use Rattle.model.specs.Store.{keyedWeighed, reweighed}
+use Rattle.model.specs.Store.{reweighed}
 use Rattle.model.specs.declared.BranchMutation.{BranchMutation}
 use Rattle.model.specs.declared.BranchMutation.the-variants.{Pauli as pauli, Pair as pair, Loss as loss}
 use Rattle.model.specs.declared.Salts.{Salts}
 use Rattle.model.specs.declared.Size.{Size}
 use Rattle.model.proofs.Packed.{Fits, entry-words, words-length}
 use Rattle.model.proofs.Rows.{mapRows-length}
+use Rattle.branch.specs.Made.{madeBranch}
 use Rattle.branch.proofs.Words.{entry-fits}
 
 module _ (salts : Salts) (s : Size) where
@@ -23,19 +24,15 @@ module _ (salts : Salts) (s : Size) where
   changed-fits (pair p a o b) e f = record { coefs = f .coefs; rows = mapRows-length (s .n) (flippedRow (pair p a o b)) (e .entry .body .rows) }
   changed-fits (loss q) e f = record { coefs = f .coefs; rows = f .rows }
 
--- the branch that `make_branch` makes
-abbrev pub branchOf : Size → BranchMutation → ℕ → List ℕ → Keyed
-branchOf s c weight parent = reweighed keyedWeighed weight (changedKeyed usualSalts (s .n) c (entryOf s parent))
-
 module _ (s : Size) (c : BranchMutation) (weight : ℕ) (parent : List ℕ) where
   module _ (l : length parent ≡ entryLen s) where
-    pub made-fits : Fits s (branchOf s c weight parent)
+    pub made-fits : Fits s (madeBranch s c weight parent)
     unfolding reweighed
     made-fits = let f = changed-fits usualSalts s c (entryOf s parent) (entry-fits s parent l) in record { coefs = f .coefs; rows = f .rows }
 
     -- its words hold it
-    pub made-entry : entryOf s (wordsOf (branchOf s c weight parent)) ≡ branchOf s c weight parent
-    made-entry = entry-words s (branchOf s c weight parent) made-fits
+    pub made-entry : entryOf s (wordsOf (madeBranch s c weight parent)) ≡ madeBranch s c weight parent
+    made-entry = entry-words s (madeBranch s c weight parent) made-fits
 
-    pub made-length : length (wordsOf (branchOf s c weight parent)) ≡ entryLen s
-    made-length = words-length s (branchOf s c weight parent) made-fits
+    pub made-length : length (wordsOf (madeBranch s c weight parent)) ≡ entryLen s
+    made-length = words-length s (madeBranch s c weight parent) made-fits

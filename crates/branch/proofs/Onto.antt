@@ -11,11 +11,10 @@ use lib.ListN.{length, take, drop, getD, set, length-append, length-drop, take-a
 use lib.Seq.{length-take-le, take-at, drop-at, set-at, drop-cons, drop-drop, take-suc, take-take, getD-take, getD-drop}
 use borrow.Rule.Slice.PartMut.{post-is}
 use Rattle.model.specs.Lists.{wordsBelow}
-use Rattle.model.specs.Entries.{rowAt, rowWords, rowsBelow}
-use Rattle.model.specs.Keys.{pick}
+use Rattle.model.specs.Entries.{rowAt, rowWords, rowsBelow, withStretch}
+use Rattle.model.specs.Keys.{ifSet}
 use Rattle.model.specs.Changes.{flipsBy, flippedRow}
 use Rattle.model.specs.declared.BranchMutation.{BranchMutation}
-use Rattle.model.proofs.Groups.{lent}
 use Rattle.model.proofs.Rows.{wordsBelow-length}
 use Rattle.branch.specs.Onto.{onto, part}
 
@@ -141,7 +140,7 @@ module _ (from to : ℕ) (w : List ℕ) where
           ap (λ (u : List ℕ). getD u (from + 3 * r + j) 0) e ∙ onto-read to w (made r) (omega (arith, made-length r)) (from + 3 * r + j) (omega arith)
           ∙ sym (getD-drop from w (3 * r + j) 0 ∙ ap (λ (n : ℕ). getD w n 0) i)
 
-      pub rows-next : {t : ℕ} → t ≡ pick (flipsBy m (rowAt (drop from w) r)) 2
+      pub rows-next : {t : ℕ} → t ≡ ifSet (flipsBy m (rowAt (drop from w) r)) 2
           → set (set (set l (to + 3 * r) (getD l (from + 3 * r) 0)) (to + 3 * r + 1) (getD l (from + 3 * r + 1) 0)) (to + 3 * r + 2) (bitXor (getD l (from + 3 * r + 2) 0) t)
           ≡ onto to (made (r + 1)) w
       unfolding wordsBelow flippedRow
@@ -172,7 +171,7 @@ head-made to w a b c d e h =
     ∙ onto-next to w (a ∷ b ∷ c ∷ d ∷ []) e (omega arith)
 
 -- a slot that was lent, and came back as x
-pub lent-onto : (k i : ℕ) (w x : List ℕ) → length x ≡ k → onto (i * k) x w ≡ lent k i w x
+pub lent-onto : (k i : ℕ) (w x : List ℕ) → length x ≡ k → onto (i * k) x w ≡ withStretch k i w x
 unfolding onto
 lent-onto k i w x h =
     ap (λ (n : ℕ). take (i * k) w ++ (x ++ drop (i * k + n) w)) h ∙ ap (λ (u : List ℕ). take (i * k) w ++ (x ++ u)) (sym (post-is (i * k) (i * k + k) w (omega arith)))

@@ -8,14 +8,15 @@ use lib.ListN.{length, getD, drop}
 use lib.Seq.{getD-drop}
 use Rattle.model.specs.Lists.{wordsBelow}
 use Rattle.model.specs.Entries.{Row, rowAt, xAt, zAt, phaseAt, rowWords, rowsBelow, mapRows}
+use Rattle.model.specs.Keys.{usualSalts}
 use Rattle.model.specs.Changes.{flipsBy, flippedRow}
 use Rattle.model.specs.declared.BranchMutation.{BranchMutation}
 use Rattle.model.proofs.Rows.{wordsBelow-length}
-use Rattle.keys.specs.Changes.{flipBits, lowRows}
-use Rattle.keys.specs.declared.Change.{Change}
-use Rattle.keys.proofs.ChangeTables.{low-few}
-use Rattle.keys.proofs.Packed.{packed-ext, packed-shift}
-use Rattle.branch.specs.Flips.{flippedRows, FlipsOf}
+use Rattle.changes.specs.Changes.{flipBits, lowRows, changeOf}
+use Rattle.changes.specs.declared.Change.{Change}
+use Rattle.changes.proofs.ChangeTables.{low-few}
+use Rattle.changes.proofs.Packed.{packed-ext, packed-shift}
+use Rattle.branch.specs.Flips.{flippedRows}
 use Rattle.branch.specs.Onto.{onto}
 use Rattle.branch.proofs.Kept.{rows-ext}
 use Rattle.branch.proofs.Onto.{onto-read, onto-onto}
@@ -29,7 +30,7 @@ rows-split f a (suc b) =
     ∙ ap (λ (l : List ℕ). l ++ rowWords (f (a + b))) (rows-split f a b) ∙ ap (rowsBelow f) (sym (add-suc a b))
 
 module _ (n : ℕ) (few : n ≤ 64) (m : BranchMutation) (from to : ℕ) (w : List ℕ) (h : from + 3 * (2 * n) ≤ to) (k : to + 3 * (2 * n) ≤ length w) (c : Change)
-    (f : FlipsOf n m (drop from w) c) {low : ℕ} (e : low ≡ lowRows n) where
+    (f : c ≡ changeOf usualSalts n m (drop from w)) {low : ℕ} (e : low ≡ lowRows n) where
   abbrev rest : ℕ
   rest = 2 * n - low
 
@@ -45,7 +46,8 @@ module _ (n : ℕ) (few : n ≤ 64) (m : BranchMutation) (from to : ℕ) (w : Li
 
   -- its bits
   pub first-bits : c .low ≡ flipBits m (drop from w) 0 low
-  first-bits = f .low ∙ ap (flipBits m (drop from w) 0) (sym e)
+  unfolding changeOf
+  first-bits = ap (λ (x : Change). x .low) f ∙ ap (flipBits m (drop from w) 0) (sym e)
 
   module _ {w₁ : List ℕ} (e₁ : w₁ ≡ onto to first w) where
     -- the rows of the second part are as they were
@@ -66,9 +68,9 @@ module _ (n : ℕ) (few : n ≤ 64) (m : BranchMutation) (from to : ℕ) (w : Li
         ∙ ap (λ (p : ℕ). record { x = xAt (drop from w) (low + r); z = zAt (drop from w) (low + r); phase = p }) (word-there r 2 l (omega arith))
 
     pub second-bits : c .high ≡ flipBits m (drop (from + 3 * low) w₁) 0 rest
-    unfolding flipBits
+    unfolding changeOf flipBits
     second-bits =
-        f .high
+        ap (λ (x : Change). x .high) f
         ∙ ap (λ (x : ℕ). flipBits m (drop from w) x (2 * n - x)) (sym e)
         ∙ ap (λ (x : ℕ). flipBits m (drop from w) x rest) (sym (add-zero low))
         ∙ sym

@@ -10,12 +10,12 @@ use lib.ListN.{getD}
 use borrow.Author.Tests.{eqb-true, eqb-false, eq-eqb, ne-eqb}
 use Rattle.model.specs.Lists.{allBelow}
 use Rattle.model.specs.Entries.{rowAt, xAt, zAt, rowWords}
-use Rattle.model.specs.Keys.{pick}
+use Rattle.model.specs.Keys.{ifSet}
 use Rattle.model.specs.Changes.{flipsBy, flippedRow}
 use Rattle.model.specs.declared.BranchMutation.{BranchMutation}
 use Rattle.model.proofs.Rows.{wordsBelow-at}
-use Rattle.model.proofs.Xor.{xor-cancel-left}
-use Rattle.checks.proofs.Ors.{or-zero, all-next}
+use Rattle.model.proofs.Lists.{all-next}
+use Rattle.model.proofs.Xor.{xor-cancel-left, or-zero}
 use Rattle.branch.specs.Flips.{flippedRows}
 use Rattle.branch.specs.Same.{sameWord, samePauli}
 
@@ -92,12 +92,12 @@ module _ (e p : List ℕ) (rows : ℕ) (m : BranchMutation) where
     unfolding flippedRow
     z-word = word i 1 h (omega arith)
 
-    phase-word : {t : ℕ} → t ≡ pick (flipsBy m (rowAt p i)) 2 → getD (flippedRows m rows p) (3 * i + 2) 0 ≡ bitXor (getD p (3 * i + 2) 0) t
+    phase-word : {t : ℕ} → t ≡ ifSet (flipsBy m (rowAt p i)) 2 → getD (flippedRows m rows p) (3 * i + 2) 0 ≡ bitXor (getD p (3 * i + 2) 0) t
     unfolding flippedRow
     phase-word f = word i 2 h (omega arith) ∙ ap (bitXor (getD p (3 * i + 2) 0)) (sym f)
 
     -- a turn: the OR of what their words differ in, apart for x, z and phases
-    pub row-next : (x z phase : ℕ) {t : ℕ} → t ≡ pick (flipsBy m (rowAt p i)) 2 → eqb (bitOr (bitOr x z) phase) 0 ≡ allBelow sameAt (3 * i)
+    pub row-next : (x z phase : ℕ) {t : ℕ} → t ≡ ifSet (flipsBy m (rowAt p i)) 2 → eqb (bitOr (bitOr x z) phase) 0 ≡ allBelow sameAt (3 * i)
         → eqb (bitOr (bitOr (bitOr x (bitXor (getD e (3 * i) 0) (getD p (3 * i) 0))) (bitOr z (bitXor (getD e (3 * i + 1) 0) (getD p (3 * i + 1) 0))))
         (bitOr phase (bitXor (getD e (3 * i + 2) 0) (bitXor (getD p (3 * i + 2) 0) t)))) 0 ≡ allBelow sameAt (3 * (i + 1))
     row-next x z phase {t} f h =

@@ -1,27 +1,27 @@
 -- A branch made in a slot past its parent: its head, its coefficients and its rows, written one after the other, are its words. Assumes nothing.
 use mathlib.Core.Path.{_≡_, refl, sym, ap, ap₂, _∙_}
 use mathlib.Core.List.{List, [], _∷_, _++_, append-assoc}
-use Prim.Native.Nat.{ℕ, zero, suc, _+_, _*_, _-_, _^_, _≤_, _<_}
+use Prim.Native.Nat.{ℕ, zero, suc, _+_, _*_, _^_, _≤_, _<_}
 use native.Mathlib.Nat.{suc-add, zero-add}
 use native.Mathlib.Omega.{arith}
 use lib.Bits.{bitXor}
 use lib.ListN.{length, take, drop, getD, length-append}
 use lib.Seq.{getD-take, getD-drop, drop-drop, take-nil}
-use Rattle.model.specs.Entries.{Body, Keyed, mapRows, headLen, coefsLen, rowsLen, entryLen, wordsOf, entryOf, stretch}
+use Rattle.model.specs.Entries.{Body, Keyed, mapRows, headLen, coefsLen, rowsLen, entryLen, wordsOf, entryOf, stretch, withStretch}
 use Rattle.model.specs.Keys.{usualSalts}
 use Rattle.model.specs.Changes.{flippedRow, changedBody, changedEntry, changedKeyed}
-use Rattle.model.specs.Store.{keyedWeighed, reweighed}
+use Rattle.model.specs.Store.{reweighed}
 use Rattle.model.specs.declared.BranchMutation.{BranchMutation}
 use Rattle.model.specs.declared.BranchMutation.the-variants.{Pauli as pauli, Pair as pair, Loss as loss}
 use Rattle.model.specs.declared.Size.{Size}
-use Rattle.model.proofs.Groups.{stride-le, lent}
+use Rattle.model.proofs.Groups.{stride-le}
 use Rattle.model.proofs.Rows.{mapRows-length}
-use Rattle.keys.specs.Changes.{flipBits, lowRows, changeOf}
-use Rattle.keys.specs.declared.Change.{Change}
-use Rattle.keys.proofs.ChangeTables.{low-few}
-use Rattle.branch.specs.Flips.{FlipsOf, lossAfter}
+use Rattle.changes.specs.Changes.{changeOf}
+use Rattle.changes.specs.declared.Change.{Change}
+use Rattle.branch.specs.Flips.{lossAfter}
+use Rattle.branch.specs.Made.{madeBranch}
 use Rattle.branch.specs.Onto.{onto, part, headWords}
-use Rattle.branch.proofs.Kept.{rows-front, bits-front, loss-rows}
+use Rattle.branch.proofs.Kept.{rows-front, change-front, loss-rows}
 use Rattle.branch.proofs.Onto.{onto-part, onto-onto, part-front, part-length, lent-onto}
 
 -- ---- rows
@@ -43,7 +43,7 @@ drop-take (suc a) b (x ∷ l) = ap (λ (k : ℕ). drop (suc a) (take k (x ∷ l)
 
 -- words, part by part
 words-by : (weight : ℕ) {b : Body} {l c wk wk′ pk pk′ : ℕ} {cs rs : List ℕ} → b ≡ record { loss = l; count = c; coefs = cs; rows = rs } → wk ≡ wk′ → pk ≡ pk′
-    → wordsOf (record { entry = record { weight = weight; body = b }; wordKey = wk; phaseKey = pk }) ≡ weight ∷ l ∷ wk′ ∷ pk′ ∷ c ∷ (cs ++ rs)
+    → wordsOf (record { entry = record { weight = weight; body = b }; wordKey = wk; phaseLossKey = pk }) ≡ weight ∷ l ∷ wk′ ∷ pk′ ∷ c ∷ (cs ++ rs)
 unfolding wordsOf
 words-by weight e f g = rw (e, f, g)
 
@@ -64,7 +64,7 @@ module _ (s : Size) (m : BranchMutation) (weight : ℕ) (change : Change) (i slo
   parent = stretch s w i
 
   abbrev branch : Keyed
-  branch = reweighed keyedWeighed weight (changedKeyed usualSalts (s .n) m (entryOf s parent))
+  branch = madeBranch s m weight parent
 
   room : from + entryLen s ≤ to
   room = stride-le (entryLen s) i slot h
@@ -110,7 +110,7 @@ module _ (s : Size) (m : BranchMutation) (weight : ℕ) (change : Change) (i slo
   unfolding reweighed changedKeyed changedEntry entryOf changeOf
   words-are d = words-by weight body-is (word 2 (omega arith)) (ap₂ bitXor (word 3 (omega arith)) (sym (ap (λ (c : Change). c .delta) d)))
 
-  -- the rows from which they are made, with the parent's head and coefficients copied, and their bits
+  -- the rows from which they are made, with the parent's head and coefficients copied, and what changes
   module _ {w₂ : List ℕ} (f₂ : w₂ ≡ onto to (head ++ coefs) w) (g : length (head ++ coefs) ≡ headLen + cs) where
     abbrev at : ℕ
     at = from + headLen + cs
@@ -118,24 +118,15 @@ module _ (s : Size) (m : BranchMutation) (weight : ℕ) (change : Change) (i slo
     rows-there : part at rs w₂ ≡ part at rs w
     rows-there = ap (part at rs) f₂ ∙ onto-part to w (head ++ coefs) (omega arith) at rs (omega (arith, room))
 
-    bits-there : (first many : ℕ) → first + many ≤ 2 * s .n → flipBits m (entryOf s parent .entry .body .rows) first many ≡ flipBits m (drop at w₂) first many
+    changes-there : Changes → change ≡ changeOf usualSalts (s .n) m (drop at w₂)
     unfolding entryOf
-    bits-there first many b = ap (λ (l : List ℕ). flipBits m l first many) (rows-are ∙ sym rows-there) ∙ bits-front (s .n) m (drop at w₂) first many b
-
-    flips-there : s .n ≤ 64 → Changes → FlipsOf (s .n) m (drop at w₂) change
-    unfolding changeOf
-    flips-there b d =
-        let l = low-few (s .n) b refl in
-        record {
-          low = ap (λ (c : Change). c .low) d ∙ bits-there 0 (lowRows (s .n)) (omega arith);
-          high = ap (λ (c : Change). c .high) d ∙ bits-there (lowRows (s .n)) (2 * s .n - lowRows (s .n)) (omega arith);
-        }
+    changes-there d = d ∙ ap (changeOf usualSalts (s .n) m) (rows-are ∙ sym rows-there) ∙ change-front (s .n) m (drop at w₂)
 
   -- written one after the other
-  pub made-in-slot : {w₁ w₂ w₃ : List ℕ} → s .n ≤ 64 → Changes → w₁ ≡ onto to head w → w₂ ≡ onto (to + headLen) (part (from + headLen) cs w₁) w₁
-      → (FlipsOf (s .n) m (drop (from + headLen + cs) w₂) change → w₃ ≡ onto (to + headLen + cs) (mapRows (s .n) (flippedRow m) (drop (from + headLen + cs) w₂)) w₂)
-      → w₃ ≡ lent (entryLen s) slot w (wordsOf branch)
-  made-in-slot {w₁} {w₂} {w₃} n d e₁ e₂ e₃ =
+  pub made-in-slot : {w₁ w₂ w₃ : List ℕ} → Changes → w₁ ≡ onto to head w → w₂ ≡ onto (to + headLen) (part (from + headLen) cs w₁) w₁
+      → (change ≡ changeOf usualSalts (s .n) m (drop (from + headLen + cs) w₂) → w₃ ≡ onto (to + headLen + cs) (mapRows (s .n) (flippedRow m) (drop (from + headLen + cs) w₂)) w₂)
+      → w₃ ≡ withStretch (entryLen s) slot w (wordsOf branch)
+  made-in-slot {w₁} {w₂} {w₃} d e₁ e₂ e₃ =
       let b : length coefs ≡ cs = part-length (from + headLen) to w cs (omega (arith, room)) in
       let g : length (head ++ coefs) ≡ headLen + cs = length-append head coefs ∙ ap (λ (j : ℕ). headLen + j) b in
       let r : length rows ≡ rs = mapRows-length (s .n) (flippedRow m) (part (from + headLen + cs) rs w) in
@@ -144,7 +135,7 @@ module _ (s : Size) (m : BranchMutation) (weight : ℕ) (change : Change) (i slo
       let c₂ : mapRows (s .n) (flippedRow m) (drop (from + headLen + cs) w₂) ≡ rows =
       sym (rows-front (s .n) (flippedRow m) (drop (from + headLen + cs) w₂)) ∙ ap (mapRows (s .n) (flippedRow m)) (rows-there f₂ g) in
       let at : to + headLen + cs ≡ to + length (head ++ coefs) = omega arith in
-      e₃ (flips-there f₂ g n d) ∙ ap₂ (λ (x y : List ℕ). onto (to + headLen + cs) x y) c₂ f₂
+      e₃ (changes-there f₂ g d) ∙ ap₂ (λ (x y : List ℕ). onto (to + headLen + cs) x y) c₂ f₂
       ∙ onto-onto to w (head ++ coefs) rows (to + headLen + cs) at (omega arith)
       ∙ ap (λ (x : List ℕ). onto to x w) (append-assoc head coefs rows ∙ sym (words-are d))
       ∙ lent-onto (entryLen s) slot w (wordsOf branch) (ap length (words-are d) ∙ length-append head (coefs ++ rows) ∙ omega (arith, length-append coefs rows))

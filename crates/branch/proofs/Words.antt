@@ -40,7 +40,7 @@ module _ (s : Size) (q : ℕ) (w : List ℕ) (d : ℕ) (l : length w ≡ entryLe
   parent = entryOf s w
 
   abbrev rekeyed-entry : Keyed
-  rekeyed-entry = record { entry = parent .entry; wordKey = parent .wordKey; phaseKey = bitXor (parent .phaseKey) d }
+  rekeyed-entry = record { entry = parent .entry; wordKey = parent .wordKey; phaseLossKey = bitXor (parent .phaseLossKey) d }
 
   key-written : rekeyed d w ≡ wordsOf rekeyed-entry
   unfolding wordsOf
@@ -50,4 +50,4 @@ module _ (s : Size) (q : ℕ) (w : List ℕ) (d : ℕ) (l : length w ≡ entryLe
   unfolding wordsOf changedKeyed changedEntry changedBody
   loss-written p =
       ap (set (rekeyed d w) 1) p ∙ ap (λ (v : List ℕ). set v 1 (bitXor (getD v 1 0) (2 ^ q))) key-written
-      ∙ ap (λ (m : ℕ). wordsOf (record { entry = changedEntry (s .n) (loss q) (parent .entry); wordKey = parent .wordKey; phaseKey = bitXor (parent .phaseKey) m })) k
+      ∙ ap (λ (m : ℕ). wordsOf (record { entry = changedEntry (s .n) (loss q) (parent .entry); wordKey = parent .wordKey; phaseLossKey = bitXor (parent .phaseLossKey) m })) k

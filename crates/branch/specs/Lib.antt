@@ -1,3 +1,4 @@
 pub mod Flips
+pub mod Made
 pub mod Onto
 pub mod Same

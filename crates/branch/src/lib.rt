@@ -1,21 +1,20 @@
 // A branch's words, made from its parent's: document 01, points 3, 5 and 6.
-use keys::Change;
+use changes::Change;
 use model::BranchMutation;
 use model::Size;
 ghost use mathlib.Core.Path.{_≡_};
 ghost use Prim.Native.Nat.{_+_, _*_, _^_, _≤_, _<_};
 ghost use lib.ListN.{length, drop};
 ghost use Rattle.model.specs.Lists.{allBelow};
-ghost use Rattle.model.specs.Entries.{entryLen, mapRows, entryOf, wordsOf, stretch};
+ghost use Rattle.model.specs.Entries.{entryLen, mapRows, entryOf, wordsOf, stretch, withStretch};
 ghost use Rattle.model.specs.Keys.{usualSalts};
 ghost use Rattle.model.specs.Changes.{flippedRow, masksOf, changedKeyed};
-ghost use Rattle.model.specs.Store.{keyedWeighed, reweighed};
 ghost use Rattle.model.specs.Qubits.{QubitsBelow};
 ghost use Rattle.model.specs.declared.BranchMutation.the-variants.{Loss};
-ghost use Rattle.model.proofs.Groups.{lent};
-ghost use Rattle.checks.specs.Sized.{Within};
-ghost use Rattle.keys.specs.Changes.{flipBits, changeOf};
-ghost use Rattle.branch.specs.Flips.{flippedRows, FlipsOf, lossAfter};
+ghost use Rattle.entries.specs.Within.{Within};
+ghost use Rattle.changes.specs.Changes.{flipBits, changeOf};
+ghost use Rattle.branch.specs.Flips.{flippedRows, lossAfter};
+ghost use Rattle.branch.specs.Made.{madeBranch};
 ghost use Rattle.branch.specs.Onto.{onto, part, headWords};
 ghost use Rattle.branch.specs.Same.{sameWord, samePauli};
 
@@ -27,7 +26,7 @@ pub fn loss_after(m: BranchMutation, loss: u64) -> u64
     match m {
         BranchMutation::Pauli(_, _) => loss,
         BranchMutation::Pair(_, _, _, _) => loss,
-        BranchMutation::Loss(q) => keys::toggle_loss(loss, q),
+        BranchMutation::Loss(q) => changes::toggle_loss(loss, q),
     }
 }
 
@@ -105,7 +104,7 @@ pub fn toggle_entry(e: &mut [u64], size: Size, q: usize, delta: u64)
     ensures { λ _. ⌜ now (e .exit) ≡ wordsOf (changedKeyed usualSalts (size .n) (Loss q) (entryOf size (now (e .entry)))) ⌝ }
 {
     e[3] = e[3] ^ delta;
-    e[1] = keys::toggle_loss(e[1], q);
+    e[1] = changes::toggle_loss(e[1], q);
 }
 
 // ---- a branch made in a slot of its parent's store
@@ -124,12 +123,12 @@ pub fn make_head(
 {
     let loss = store[from + 1];
     let word_key = store[from + 2];
-    let phase_key = store[from + 3];
+    let phase_loss_key = store[from + 3];
     let coefficients = store[from + 4];
     store[to] = weight;
     store[to + 1] = loss_after(m, loss);
     store[to + 2] = word_key;
-    store[to + 3] = phase_key ^ delta;
+    store[to + 3] = phase_loss_key ^ delta;
     store[to + 4] = coefficients;
 }
 
@@ -169,7 +168,7 @@ fn copy_flipped(store: &mut [u64], from: usize, to: usize, rows: usize, flips: u
 // The 2n rows, copied with the phases that the change leaves; rows of which none is flipped are copied as plain words.
 pub fn copy_rows(store: &mut [u64], from: usize, to: usize, n: usize, c: Change)
     requires { ⌜ (n ≤ 64) × (from + 3 * (2 * n) ≤ to) × (to + 3 * (2 * n) ≤ length (now store)) ⌝ }
-    ensures { λ _. ⌜ ((m : BranchMutation) → FlipsOf n m (drop from (now (store .entry))) c → now (store .exit) ≡ onto to (mapRows n (flippedRow m) (drop from (now (store .entry)))) (now (store .entry))) ⌝ }
+    ensures { λ _. ⌜ ((m : BranchMutation) → c ≡ changeOf usualSalts n m (drop from (now (store .entry))) → now (store .exit) ≡ onto to (mapRows n (flippedRow m) (drop from (now (store .entry)))) (now (store .entry))) ⌝ }
 {
     if c.low == 0 {
         if c.high == 0 {
@@ -177,7 +176,7 @@ pub fn copy_rows(store: &mut [u64], from: usize, to: usize, n: usize, c: Change)
             return;
         }
     }
-    let low = keys::low_rows(n);
+    let low = changes::low_rows(n);
     copy_flipped(store, from, to, low, c.low);
     copy_flipped(store, from + 3 * low, to + 3 * low, 2 * n - low, c.high);
 }
@@ -194,9 +193,9 @@ pub fn make_branch(
     c: Change,
 )
     requires { ⌜ Within size × (i < slot) × (slot * entryLen size + entryLen size ≤ length (now store)) × QubitsBelow 64 m × (c ≡ changeOf usualSalts (size .n) m (entryOf size (stretch size (now store) i) .entry .body .rows)) ⌝ }
-    ensures { λ _. ⌜ now (store .exit) ≡ lent (entryLen size) slot (now (store .entry)) (wordsOf (reweighed keyedWeighed weight (changedKeyed usualSalts (size .n) m (entryOf size (stretch size (now (store .entry)) i))))) ⌝ }
+    ensures { λ _. ⌜ now (store .exit) ≡ withStretch (entryLen size) slot (now (store .entry)) (wordsOf (madeBranch size m weight (stretch size (now (store .entry)) i))) ⌝ }
 {
-    let len = checks::entry_len(size);
+    let len = entries::entry_len(size);
     let coefs = 3 * size.k;
     let from = i * len;
     let to = slot * len;

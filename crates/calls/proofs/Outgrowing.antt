@@ -13,18 +13,18 @@ use Rattle.model.specs.Calls.{Call, Lent, Left, held, gave, step}
 use Rattle.model.specs.declared.Header.{Header}
 use Rattle.model.specs.declared.Answer.{Answer}
 use Rattle.calls.specs.Stores.{laid}
-use Rattle.calls.specs.Outgrown.{withCapacity, withCutoff, answerOf, largestRoom, cappedSum, asked, unknown}
+use Rattle.calls.specs.Outgrown.{withCapacity, withCutoff, answerOn, largestRoom, cappedSum, asked, unknown}
 use Rattle.calls.specs.Outgrown.{countOf, boundOf, counted, bounded, entriesAsked, fitting, fittingCutoff, outgrown, outgrownBy}
 use Rattle.calls.specs.declared.outgrown.Asked.{Asked}
 
 -- ---- the answer of the call
 
 -- as it was made, by what was lent to it
-pub answer-made : (c : Call) (h : Header) {a : Answer} {left w v : List ℕ} → gave a left ≡ step c (held h w) → w ≡ v → a ≡ answerOf c h v
-answer-made c h e p = ap (λ (l : Left). l .answer) e ∙ ap (λ (u : List ℕ). answerOf c h u) p
+pub answer-made : (c : Call) (h : Header) {a : Answer} {left w v : List ℕ} → gave a left ≡ step c (held h w) → w ≡ v → a ≡ answerOn c h v
+answer-made c h e p = ap (λ (l : Left). l .answer) e ∙ ap (λ (u : List ℕ). answerOn c h u) p
 
-pub answer-as : (c : Call) {a : Answer} {h k : Header} {w v : List ℕ} → a ≡ answerOf c h w → h ≡ k → w ≡ v → a ≡ answerOf c k v
-answer-as c e p q = e ∙ ap₂ (λ (g : Header) (u : List ℕ). answerOf c g u) p q
+pub answer-as : (c : Call) {a : Answer} {h k : Header} {w v : List ℕ} → a ≡ answerOn c h w → h ≡ k → w ≡ v → a ≡ answerOn c k v
+answer-as c e p q = e ∙ ap₂ (λ (g : Header) (u : List ℕ). answerOn c g u) p q
 
 -- ---- by an answer
 
@@ -59,7 +59,7 @@ module _ (c : Call) (x : Lent) (room : ℕ) where
     store-long h k = rw (← e, le-ltb room most h, lt-ltb most (length (x .words)) k)
 
     pub has-room : most ≤ room → length (x .words) ≤ most
-        → countOf (x .header .count) (answerOf c (withCapacity maxCapacity (x .header)) (laid most (x .words))) ≡ counted c x room
+        → countOf (x .header .count) (answerOn c (withCapacity maxCapacity (x .header)) (laid most (x .words))) ≡ counted c x room
     unfolding counted
     has-room h k = rw (← e, le-ltb room most h, le-ltb most (length (x .words)) k)
 
@@ -87,7 +87,7 @@ module _ (c : Call) (x : Lent) (left : ℕ) (cutoff : Float) where
     unfolding fitting
     above-one o = rw (some-left, o)
 
-    module _ (o : above cutoff (float oneBits) ≡ false) {a : Answer} (e : a ≡ answerOf c (withCutoff cutoff (x .header)) (x .words)) where
+    module _ (o : above cutoff (float oneBits) ≡ false) {a : Answer} (e : a ≡ answerOn c (withCutoff cutoff (x .header)) (x .words)) where
       pub fits : a .number ≡ 0 → cutoff ≡ fitting c x left cutoff
       unfolding fitting
       fits z = rw (some-left, o, ← e, eq-eqb (a .number) 0 z)

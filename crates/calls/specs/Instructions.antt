@@ -5,10 +5,11 @@ use Prim.Native.Nat.{ℕ}
 use lib.Ieee.{Float}
 use Rattle.model.specs.Channels.{one, two, depolarize2}
 use Rattle.model.specs.Numbers.{ratesSound}
-use Rattle.model.specs.Calls.{Call, noise, reset, gate, truncate, normalise, table, pick, sheet, view}
+use Rattle.model.specs.Calls.{Call, noise, reset, gate, byNoise, byReset, Kind, branching, turning, moving, looking, kindOf}
 use Rattle.model.specs.declared.Gate.the-variants as Gate
 use Rattle.circuit.specs.declared.lines.Act.{Act}
 use Rattle.circuit.specs.declared.lines.Act.the-variants as Act
+use Rattle.calls.specs.declared.Operation.{Operation}
 
 -- on a qubit p, or on the qubits p and q: CNOT is from p to q; the line's 15 rates are those of pairs of Paulis
 abbrev pub callOf : Act → List Float → ℕ → ℕ → Call
@@ -20,14 +21,16 @@ callOf Act.Cnot rates p q = gate (Gate.Cnot p q)
 callOf Act.PauliPairs rates p q = noise (two rates p q)
 callOf (Act.Depolarize2 rate) rates p q = noise (depolarize2 rate p q)
 
+abbrev pub callOn : Operation → Call
+callOn o = callOf (o .act) (o .rates) (o .p) (o .q)
+
 -- number 4 does not apply to a call: only channels have rates
+abbrev pub soundAs : Kind → Bool
+soundAs (branching (byNoise c)) = ratesSound c
+soundAs (branching (byReset q)) = true
+soundAs turning = true
+soundAs moving = true
+soundAs (looking f) = true
+
 abbrev pub soundRates : Call → Bool
-soundRates (noise c) = ratesSound c
-soundRates (reset q) = true
-soundRates (gate g) = true
-soundRates truncate = true
-soundRates normalise = true
-soundRates (table room) = true
-soundRates (pick draw) = true
-soundRates (sheet room) = true
-soundRates (view place) = true
+soundRates c = soundAs (kindOf c)

@@ -1,15 +1,13 @@
 -- What the call of an instruction loses, and what is lost of the initial weight after it. Assumes nothing.
-use mathlib.Core.Bool.{Bool, cond, _&&_, _||_}
-use mathlib.Core.List.{map}
+use mathlib.Core.Bool.{Bool, cond, _||_}
 use Prim.Native.Nat.{ℕ, _+_}
 use lib.Dec.{eqb, ltb}
 use lib.Ieee.{Float}
 use Rattle.model.specs.Floats.{float, zeroBits, oneBits, plus, minus, times, over, above}
-use Rattle.model.specs.Entries.{strip, listed}
+use Rattle.model.specs.Entries.{listed}
 use Rattle.model.specs.Store.{keyedWeighed}
 use Rattle.model.specs.Sum.{total}
-use Rattle.model.specs.Numbers.{firstOf, entriesSound}
-use Rattle.model.specs.Calls.{Call, noise, reset, gate, truncate, normalise, table, pick, sheet, view, Lent, shape, padded}
+use Rattle.model.specs.Calls.{Call, byNoise, byReset, Kind, branching, turning, moving, looking, kindOf, Lent, front}
 use Rattle.model.specs.declared.Header.{Header}
 use Rattle.model.specs.declared.Answer.{Answer}
 use Rattle.drops.specs.Lost.{nothing, noiseLost, resetLost}
@@ -17,16 +15,15 @@ use Rattle.drops.specs.declared.Lost.{Lost}
 
 -- ---- what a call loses: only channels and resets drop and truncate
 
+abbrev pub lostAs : Kind → Lent → Lost
+lostAs (branching (byNoise c)) x = noiseLost c x
+lostAs (branching (byReset q)) x = resetLost q x
+lostAs turning x = nothing
+lostAs moving x = nothing
+lostAs (looking f) x = nothing
+
 abbrev pub lostBy : Call → Lent → Lost
-lostBy (noise c) x = noiseLost c x
-lostBy (reset q) x = resetLost q x
-lostBy (gate g) x = nothing
-lostBy truncate x = nothing
-lostBy normalise x = nothing
-lostBy (table room) x = nothing
-lostBy (pick draw) x = nothing
-lostBy (sheet room) x = nothing
-lostBy (view place) x = nothing
+lostBy c x = lostAs (kindOf c) x
 
 -- a branch was dropped, or entries went that were there or were stored
 unfoldable pub hasLost : Header → Answer → Bool
@@ -37,8 +34,7 @@ hasLost before a = ltb 0 (a .counts .dropped) || ltb (a .header .count) (before 
 -- the total of a sum that numbers 1, 2 and 5 let through; 0 of any other
 unfoldable pub weightOf : Lent → Float
 weightOf x =
-    let es = listed (x .header .size) (x .header .count) (x .words) in
-    cond (eqb (firstOf (shape x)) 0 && (padded x && entriesSound (x .header .size) (map strip es))) (total keyedWeighed es) (float zeroBits)
+    cond (eqb (front 0 x) 0) (total keyedWeighed (listed (x .header .size) (x .header .count) (x .words))) (float zeroBits)
 
 -- 0 of a total that is not above 0
 unfoldable pub fraction : Float → Float → Float

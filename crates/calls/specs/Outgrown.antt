@@ -8,7 +8,7 @@ use lib.ListN.{length}
 use Rattle.model.specs.Floats.{float, zeroBits, oneBits, plus, above}
 use Rattle.model.specs.Entries.{entryLen}
 use Rattle.model.specs.Numbers.{maxQubits, maxCoefficients, maxCapacity}
-use Rattle.model.specs.Calls.{Call, Lent, held, step}
+use Rattle.model.specs.Calls.{Call, Lent, held, headerOf, step}
 use Rattle.model.specs.declared.Size.{Size}
 use Rattle.model.specs.declared.Header.{Header}
 use Rattle.model.specs.declared.Answer.{Answer}
@@ -19,20 +19,13 @@ use Rattle.calls.specs.declared.outgrown.Outgrown.{Outgrown}
 -- ---- the call on a copy
 
 abbrev pub withCapacity : ℕ → Header → Header
-withCapacity capacity h =
-    record {
-      size = record { n = h .size .n; k = h .size .k; capacity = capacity };
-      count = h .count;
-      threshold = h .threshold;
-      cutoff = h .cutoff;
-      dirty = h .dirty;
-    }
+withCapacity capacity h = headerOf (record { n = h .size .n; k = h .size .k; capacity = capacity }) (h .count) (h .threshold) (h .cutoff) (h .dirty)
 
 abbrev pub withCutoff : Float → Header → Header
-withCutoff cutoff h = record { size = h .size; count = h .count; threshold = h .threshold; cutoff = cutoff; dirty = h .dirty }
+withCutoff cutoff h = headerOf (h .size) (h .count) (h .threshold) cutoff (h .dirty)
 
-abbrev pub answerOf : Call → Header → List ℕ → Answer
-answerOf c h w = step c (held h w) .answer
+abbrev pub answerOn : Call → Header → List ℕ → Answer
+answerOn c h w = step c (held h w) .answer
 
 abbrev pub accepts : Answer → Bool
 accepts a = eqb (a .number) 0
@@ -64,11 +57,11 @@ unfoldable pub counted : Call → Lent → ℕ → Asked
 counted c x room =
     let most = largestRoom (x .header .size) in
     cond (ltb room most || ltb most (length (x .words))) unknown
-    (countOf (x .header .count) (answerOf c (withCapacity maxCapacity (x .header)) (laid most (x .words))))
+    (countOf (x .header .count) (answerOn c (withCapacity maxCapacity (x .header)) (laid most (x .words))))
 
 -- the call with the largest cutoff
 unfoldable pub bounded : Call → Lent → Asked
-bounded c x = boundOf (x .header .count) (answerOf c (withCutoff (float 0x7fef_ffff_ffff_ffff) (x .header)) (x .words))
+bounded c x = boundOf (x .header .count) (answerOn c (withCutoff (float 0x7fef_ffff_ffff_ffff) (x .header)) (x .words))
 
 -- the first, or else the second
 unfoldable pub entriesAsked : Call → Lent → ℕ → Asked
@@ -85,7 +78,7 @@ unfoldable pub fitting : Call → Lent → ℕ → Float → Float
 fitting c x zero cutoff = float zeroBits
 fitting c x (suc left) cutoff =
     cond (above cutoff (float oneBits)) (float zeroBits)
-    (cond (accepts (answerOf c (withCutoff cutoff (x .header)) (x .words))) cutoff (fitting c x left (plus cutoff cutoff)))
+    (cond (accepts (answerOn c (withCutoff cutoff (x .header)) (x .words))) cutoff (fitting c x left (plus cutoff cutoff)))
 
 -- the first, and doubled 64 times at most
 unfoldable pub fittingCutoff : Call → Lent → Float

@@ -19,40 +19,52 @@ pub use outgrown::outgrown_by;
 ghost use mathlib.Core.Path.{_≡_};
 ghost use Prim.Native.Nat.{ℕ, _≤_};
 ghost use Rattle.model.specs.Calls.{held, gave, step};
-ghost use Rattle.calls.specs.Instructions.{callOf, soundRates};
+ghost use Rattle.calls.specs.Instructions.{callOf, callOn, soundRates};
 ghost use Rattle.calls.specs.Stores.{storeWords, copied};
 
-// The call of an instruction on a qubit p, or on the qubits p and q.
-pub fn make(h: Header, store: &mut [u64], act: Act, rates: [f64; 15], p: usize, q: usize) -> Answer
-    ensures { λ r. ⌜ gave r (now (store .exit)) ≡ step (callOf act rates p q) (held h (now (store .entry))) ⌝ }
+// What an instruction does, with its rates, on a qubit p, or on the qubits p and q.
+pub struct Operation {
+    pub act: Act,
+    pub rates: [f64; 15],
+    pub p: usize,
+    pub q: usize,
+}
+
+// Its call.
+pub fn make(h: Header, store: &mut [u64], o: Operation) -> Answer
+    ensures { λ r. ⌜ gave r (now (store .exit)) ≡ step (callOn o) (held h (now (store .entry))) ⌝ }
 {
+    let act = o.act;
+    let rates = o.rates;
+    let p = o.p;
+    let q = o.q;
     match act {
-        Act::H => sum::gate(h, store, Gate::H(p)),
-        Act::S => sum::gate(h, store, Gate::S(p)),
-        Act::Channel(channel) => channels::channel(h, store, channel, p),
-        Act::ResetLoss => channels::reset_loss_channel(h, store, p),
-        Act::Cnot => sum::gate(h, store, Gate::Cnot(p, q)),
-        Act::PauliPairs => channels::two_qubit_pauli_error(h, store, rates, p, q),
-        Act::Depolarize2(rate) => channels::depolarize2(h, store, rate, p, q),
+        Act::H => gates::gate(h, store, Gate::H(p)),
+        Act::S => gates::gate(h, store, Gate::S(p)),
+        Act::Channel(channel) => noise::channel(h, store, channel, p),
+        Act::ResetLoss => reset::reset_loss_channel(h, store, p),
+        Act::Cnot => gates::gate(h, store, Gate::Cnot(p, q)),
+        Act::PauliPairs => noise::two_qubit_pauli_error(h, store, rates, p, q),
+        Act::Depolarize2(rate) => noise::depolarize2(h, store, rate, p, q),
     }
 }
 
-// Number 4 does not apply to that call, whatever its qubits.
+// Number 4 does not apply to the call, whatever its qubits.
 pub fn rates_sound(act: Act, rates: [f64; 15]) -> bool
     ensures { λ r. ⌜ ((p q : ℕ) → r ≡ soundRates (callOf act rates p q)) ⌝ }
 {
     match act {
         Act::Channel(channel) => {
             let named = arms::named_rates_sound(channel, 0);
-            !channels::rates_refused(arms::channel_arms(channel, 0), named)
+            !noise::rates_refused(arms::channel_arms(channel, 0), named)
         }
         Act::PauliPairs => {
             let named = arms::all_rates_sound(rates);
-            !channels::rates_refused(arms::pair_arms(rates, 0, 0), named)
+            !noise::rates_refused(arms::pair_arms(rates, 0, 0), named)
         }
         Act::Depolarize2(rate) => {
             let named = arms::rate_sound(rate);
-            !channels::rates_refused(arms::depolarize2_arms(rate, 0, 0), named)
+            !noise::rates_refused(arms::depolarize2_arms(rate, 0, 0), named)
         }
         Act::H => true,
         Act::S => true,

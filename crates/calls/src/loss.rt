@@ -1,4 +1,5 @@
 // What the call of an instruction loses, and what is lost of the initial weight after it.
+use crate::Operation;
 use circuit::Act;
 use drops::Lost;
 use model::Answer;
@@ -10,7 +11,7 @@ ghost use Prim.Native.Nat.{ℕ};
 ghost use lib.Ieee.{Float};
 ghost use Rattle.model.specs.Calls.{Lent, held};
 ghost use Rattle.drops.specs.Lost.{nothing};
-ghost use Rattle.calls.specs.Instructions.{callOf};
+ghost use Rattle.calls.specs.Instructions.{callOf, callOn};
 ghost use Rattle.calls.specs.Loss as Spec;
 
 // ---- what a call loses
@@ -37,16 +38,13 @@ pub fn can_lose(act: Act) -> bool
 }
 
 // What the call loses, on a copy of the store as it was before.
-pub fn losses(
-    h: Header,
-    scratch: &mut [u64],
-    act: Act,
-    rates: [f64; 15],
-    p: usize,
-    q: usize,
-) -> Lost
-    ensures { λ r. ⌜ r ≡ Spec.lostBy (callOf act rates p q) (held h (now (scratch .entry))) ⌝ }
+pub fn losses(h: Header, scratch: &mut [u64], o: Operation) -> Lost
+    ensures { λ r. ⌜ r ≡ Spec.lostBy (callOn o) (held h (now (scratch .entry))) ⌝ }
 {
+    let act = o.act;
+    let rates = o.rates;
+    let p = o.p;
+    let q = o.q;
     match act {
         Act::H => no_loss(),
         Act::S => no_loss(),
@@ -81,13 +79,10 @@ pub fn total(store: &[u64], h: Header) -> f64
     ensures { λ r. ⌜ r ≡ Spec.weightOf (held h (now (store .entry))) ⌝ }
 {
     let size = h.size;
-    if checks::shape_number(h, store) != 0 {
+    if checks::front(h, store, 0) != 0 {
         return 0.0;
     }
-    if checks::words_sound(h, store) {
-        return weights::weights_total(store, size, h.count);
-    }
-    0.0
+    weights::weights_total(store, size, h.count)
 }
 
 // The fraction of a total that a part is.

@@ -1,6 +1,6 @@
 // How far a channel that was refused with 6 outgrew its room, worked out by calls on copies of the store, which the refused call left
 // as it was.
-use circuit::Act;
+use crate::Operation;
 use model::Answer;
 use model::Header;
 use model::Size;
@@ -8,7 +8,7 @@ ghost use mathlib.Core.Path.{_≡_};
 ghost use Prim.Native.Nat.{_≤_};
 ghost use lib.ListN.{length};
 ghost use Rattle.model.specs.Calls.{held};
-ghost use Rattle.calls.specs.Instructions.{callOf};
+ghost use Rattle.calls.specs.Instructions.{callOn};
 ghost use Rattle.calls.specs.Stores.{laid};
 ghost use Rattle.calls.specs.Outgrown as Spec;
 
@@ -31,31 +31,19 @@ struct Asked {
 fn with_capacity(h: Header, capacity: usize) -> Header
     ensures { λ r. ⌜ r ≡ Spec.withCapacity capacity h ⌝ }
 {
-    let size = h.size;
-    Header {
-        size: Size {
-            n: size.n,
-            k: size.k,
-            capacity,
-        },
-        count: h.count,
-        threshold: h.threshold,
-        cutoff: h.cutoff,
-        dirty: h.dirty,
-    }
+    let size = Size {
+        n: h.size.n,
+        k: h.size.k,
+        capacity,
+    };
+    answers::header(size, h.count, h.threshold, h.cutoff, h.dirty)
 }
 
 fn with_cutoff(h: Header, cutoff: f64) -> Header
     ensures { λ r. ⌜ r ≡ Spec.withCutoff cutoff h ⌝ }
 {
     let size = h.size;
-    Header {
-        size,
-        count: h.count,
-        threshold: h.threshold,
-        cutoff,
-        dirty: h.dirty,
-    }
+    answers::header(size, h.count, h.threshold, cutoff, h.dirty)
 }
 
 // The answer of the call on a copy of the store, in the first `room` words of the scratch.
@@ -64,16 +52,13 @@ fn answer_on_copy(
     store: &[u64],
     scratch: &mut [u64],
     room: usize,
-    act: Act,
-    rates: [f64; 15],
-    p: usize,
-    q: usize,
+    o: Operation,
 ) -> Answer
     requires { ⌜ (length (now store) ≤ room) × (room ≤ length (now scratch)) ⌝ }
-    ensures { λ r. ⌜ r ≡ Spec.answerOf (callOf act rates p q) h (laid room (now (store .entry))) ⌝ }
+    ensures { λ r. ⌜ r ≡ Spec.answerOn (callOn o) h (laid room (now (store .entry))) ⌝ }
 {
     crate::copy(&mut scratch[..room], store);
-    crate::make(h, &mut scratch[..room], act, rates, p, q)
+    crate::make(h, &mut scratch[..room], o)
 }
 
 // ---- entries
@@ -84,7 +69,7 @@ fn largest_room(size: Size) -> usize
 {
     if size.n <= model::MAX_QUBITS {
         if size.k <= model::MAX_COEFFICIENTS {
-            return model::MAX_CAPACITY * checks::entry_len(size);
+            return model::MAX_CAPACITY * entries::entry_len(size);
         }
     }
     0
@@ -110,16 +95,8 @@ fn unknown() -> Asked
 }
 
 // The entries there, and those that the call stores in room for 256, if the scratch has it.
-fn counted(
-    h: Header,
-    store: &[u64],
-    scratch: &mut [u64],
-    act: Act,
-    rates: [f64; 15],
-    p: usize,
-    q: usize,
-) -> Asked
-    ensures { λ r. ⌜ r ≡ Spec.counted (callOf act rates p q) (held h (now (store .entry))) (length (now (scratch .entry))) ⌝ }
+fn counted(h: Header, store: &[u64], scratch: &mut [u64], o: Operation) -> Asked
+    ensures { λ r. ⌜ r ≡ Spec.counted (callOn o) (held h (now (store .entry))) (length (now (scratch .entry))) ⌝ }
 {
     let room = largest_room(h.size);
     if scratch.len() < room {
@@ -129,7 +106,7 @@ fn counted(
         return unknown();
     }
     let wide = with_capacity(h, model::MAX_CAPACITY);
-    let a = answer_on_copy(wide, store, scratch, room, act, rates, p, q);
+    let a = answer_on_copy(wide, store, scratch, room, o);
     let counts = a.counts;
     if a.number != 0 {
         return unknown();
@@ -141,21 +118,13 @@ fn counted(
 }
 
 // The entries there, and the branches that are like none of them: with the largest cutoff all of these are dropped.
-fn bounded(
-    h: Header,
-    store: &[u64],
-    scratch: &mut [u64],
-    act: Act,
-    rates: [f64; 15],
-    p: usize,
-    q: usize,
-) -> Asked
+fn bounded(h: Header, store: &[u64], scratch: &mut [u64], o: Operation) -> Asked
     requires { ⌜ length (now store) ≤ length (now scratch) ⌝ }
-    ensures { λ r. ⌜ r ≡ Spec.bounded (callOf act rates p q) (held h (now (store .entry))) ⌝ }
+    ensures { λ r. ⌜ r ≡ Spec.bounded (callOn o) (held h (now (store .entry))) ⌝ }
 {
     let largest = f64::from_bits(0x7fef_ffff_ffff_ffff);
     let high = with_cutoff(h, largest);
-    let a = answer_on_copy(high, store, scratch, store.len(), act, rates, p, q);
+    let a = answer_on_copy(high, store, scratch, store.len(), o);
     let counts = a.counts;
     if a.number != 0 {
         return unknown();
@@ -167,23 +136,15 @@ fn bounded(
 }
 
 // The first, or else the second.
-fn entries_asked(
-    h: Header,
-    store: &[u64],
-    scratch: &mut [u64],
-    act: Act,
-    rates: [f64; 15],
-    p: usize,
-    q: usize,
-) -> Asked
+fn entries_asked(h: Header, store: &[u64], scratch: &mut [u64], o: Operation) -> Asked
     requires { ⌜ length (now store) ≤ length (now scratch) ⌝ }
-    ensures { λ r. ⌜ r ≡ Spec.entriesAsked (callOf act rates p q) (held h (now (store .entry))) (length (now (scratch .entry))) ⌝ }
+    ensures { λ r. ⌜ r ≡ Spec.entriesAsked (callOn o) (held h (now (store .entry))) (length (now (scratch .entry))) ⌝ }
 {
-    let a = counted(h, store, scratch, act, rates, p, q);
+    let a = counted(h, store, scratch, o);
     if a.exact {
         return a;
     }
-    bounded(h, store, scratch, act, rates, p, q)
+    bounded(h, store, scratch, o)
 }
 
 // ---- cutoffs
@@ -200,17 +161,9 @@ fn first_cutoff(cutoff: f64) -> f64
 }
 
 // That cutoff, or the first up to 1 of those that doubling it gives, with which the call is accepted.
-fn fitting_cutoff(
-    h: Header,
-    store: &[u64],
-    scratch: &mut [u64],
-    act: Act,
-    rates: [f64; 15],
-    p: usize,
-    q: usize,
-) -> f64
+fn fitting_cutoff(h: Header, store: &[u64], scratch: &mut [u64], o: Operation) -> f64
     requires { ⌜ length (now store) ≤ length (now scratch) ⌝ }
-    ensures { λ r. ⌜ r ≡ Spec.fittingCutoff (callOf act rates p q) (held h (now (store .entry))) ⌝ }
+    ensures { λ r. ⌜ r ≡ Spec.fittingCutoff (callOn o) (held h (now (store .entry))) ⌝ }
 {
     let mut cutoff = first_cutoff(h.cutoff);
     let mut left: usize = 65;
@@ -220,7 +173,7 @@ fn fitting_cutoff(
             return 0.0;
         }
         let high = with_cutoff(h, cutoff);
-        let a = answer_on_copy(high, store, scratch, n, act, rates, p, q);
+        let a = answer_on_copy(high, store, scratch, n, o);
         if a.number == 0 {
             return cutoff;
         }
@@ -233,16 +186,8 @@ fn fitting_cutoff(
 // ---- both
 
 // Of a call that was refused; unknown to a scratch that is shorter than the store.
-pub fn outgrown_by(
-    h: Header,
-    store: &[u64],
-    scratch: &mut [u64],
-    act: Act,
-    rates: [f64; 15],
-    p: usize,
-    q: usize,
-) -> Outgrown
-    ensures { λ r. ⌜ r ≡ Spec.outgrownBy (callOf act rates p q) (held h (now (store .entry))) (length (now (scratch .entry))) ⌝ }
+pub fn outgrown_by(h: Header, store: &[u64], scratch: &mut [u64], o: Operation) -> Outgrown
+    ensures { λ r. ⌜ r ≡ Spec.outgrownBy (callOn o) (held h (now (store .entry))) (length (now (scratch .entry))) ⌝ }
 {
     if scratch.len() < store.len() {
         return Outgrown {
@@ -251,10 +196,10 @@ pub fn outgrown_by(
             cutoff: 0.0,
         };
     }
-    let a = entries_asked(h, store, scratch, act, rates, p, q);
+    let a = entries_asked(h, store, scratch, o);
     Outgrown {
         entries: a.entries,
         exact: a.exact,
-        cutoff: fitting_cutoff(h, store, scratch, act, rates, p, q),
+        cutoff: fitting_cutoff(h, store, scratch, o),
     }
 }

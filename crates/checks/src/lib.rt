@@ -1,85 +1,21 @@
-// The whole check of a sum behind numbers 1, 2 and 5: sizes, header, and every word of the store.
-use model::Answer;
-use model::Counts;
+// The tests in front of every call: sizes, header, and every word of the store behind numbers 1, 2 and 5.
 use model::Header;
 use model::Size;
 ghost use mathlib.Core.Path.{_≡_};
-ghost use mathlib.Core.Bool.{true, _&&_};
-ghost use mathlib.Core.List.{map};
+ghost use mathlib.Core.Bool.{true};
+ghost use mathlib.Core.List.{[], _∷_, map};
 ghost use Prim.Native.Nat.{_+_, _*_, _^_, _<_, _≤_};
 ghost use lib.ListN.{length};
 ghost use Rattle.model.specs.Floats.{float, finite, finiteFromZero};
 ghost use Rattle.model.specs.Entries.{entryLen, entryOf, strip, listed};
 ghost use Rattle.model.specs.Numbers as Numbers;
 ghost use Rattle.model.specs.Lists.{allBelow};
-ghost use Rattle.model.specs.Calls.{held, shape, padded, plainAnswer, zeroHeader};
-ghost use Rattle.checks.specs.Answers.{lookedAnswer};
-ghost use Rattle.checks.specs.Sized.{Within, entrySound};
-
-// ---- answers
-
-// A header and a number, and 0 for every other number: what a refusal comes with.
-pub fn plain_answer(header: Header, number: u64) -> Answer
-    ensures { λ r. ⌜ r ≡ plainAnswer header number ⌝ }
-{
-    Answer {
-        number,
-        header,
-        counts: Counts {
-            merged: 0,
-            stored: 0,
-            dropped: 0,
-            compared: 0,
-        },
-        place: 0,
-        length: 0,
-    }
-}
-
-// What an accepted call that changes nothing gives.
-pub fn looked_answer(header: Header, place: usize, length: usize) -> Answer
-    ensures { λ r. ⌜ r ≡ lookedAnswer header place length ⌝ }
-{
-    Answer {
-        number: 0,
-        header,
-        counts: Counts {
-            merged: 0,
-            stored: 0,
-            dropped: 0,
-            compared: 0,
-        },
-        place,
-        length,
-    }
-}
-
-// The header of a refused fresh call or reading.
-pub fn zero_header() -> Header
-    ensures { λ r. ⌜ r ≡ zeroHeader ⌝ }
-{
-    Header {
-        size: Size {
-            n: 0,
-            k: 0,
-            capacity: 0,
-        },
-        count: 0,
-        threshold: 0.0,
-        cutoff: 0.0,
-        dirty: false,
-    }
-}
+ghost use Rattle.model.specs.Calls as Calls;
+ghost use Rattle.model.specs.Calls.{held, shape, wordsSound};
+ghost use Rattle.entries.specs.Within.{Within};
+ghost use Rattle.checks.specs.Sound.{entrySound};
 
 // ---- 1: sizes
-
-// The words of an entry.
-pub fn entry_len(size: Size) -> usize
-    requires { ⌜ Within size ⌝ }
-    ensures { λ r. ⌜ r ≡ entryLen size ⌝ }
-{
-    5 + 3 * size.k + 3 * (2 * size.n)
-}
 
 // From 1 to `most`.
 pub fn one_to(most: usize, x: usize) -> bool
@@ -101,7 +37,7 @@ pub fn size_sound(size: Size, words: usize) -> bool
     if one_to(model::MAX_QUBITS, n) {
         if one_to(model::MAX_COEFFICIENTS, k) {
             if one_to(model::MAX_CAPACITY, capacity) {
-                return words == capacity * entry_len(size);
+                return words == capacity * entries::entry_len(size);
             }
         }
     }
@@ -141,7 +77,7 @@ pub fn header_sound(h: Header) -> bool
 }
 
 // Number 1 or 2, or 0 if neither applies.
-pub fn shape_number(h: Header, store: &[u64]) -> u64
+fn shape_number(h: Header, store: &[u64]) -> u64
     ensures { λ r. ⌜ r ≡ Numbers.firstOf (shape (held h (now (store .entry)))) ⌝ }
 {
     let size = h.size;
@@ -297,7 +233,7 @@ pub fn entries_sound(store: &[u64], size: Size, count: usize) -> bool
     requires { ⌜ Within size × (count * entryLen size ≤ length (now store)) ⌝ }
     ensures { λ r. ⌜ r ≡ Numbers.entriesSound size (map strip (listed size count (now (store .entry)))) ⌝ }
 {
-    let len = entry_len(size);
+    let len = entries::entry_len(size);
     let mut i = 0;
     while i < count {
         if entry_sound(words::stretch(store, len, i), size) {
@@ -323,15 +259,44 @@ pub fn all_zero(part: &[u64]) -> bool
 }
 
 // Number 5 does not apply: the listed entries are sound, and the slots past the count are 0.
-pub fn words_sound(h: Header, store: &[u64]) -> bool
+fn words_sound(h: Header, store: &[u64]) -> bool
     requires { ⌜ Numbers.firstOf (shape (held h (now store))) ≡ 0 ⌝ }
-    ensures { λ r. ⌜ r ≡ (padded (held h (now (store .entry))) && Numbers.entriesSound (h .size) (map strip (listed (h .size) (h .count) (now (store .entry))))) ⌝ }
+    ensures { λ r. ⌜ r ≡ wordsSound (held h (now (store .entry))) ⌝ }
 {
     let size = h.size;
     let count = h.count;
-    let past = count * entry_len(size);
+    let past = count * entries::entry_len(size);
     if all_zero(&store[past..]) {
         return entries_sound(store, size, count);
     }
     false
+}
+
+// ---- the tests in front of a call
+
+// The number of one test of a call's own: 0 if it does not apply.
+pub fn test(number: u64, applies: bool) -> u64
+    ensures { λ r. ⌜ r ≡ Numbers.firstOf (Numbers.gives number applies ∷ []) ⌝ }
+{
+    if applies {
+        return number;
+    }
+    0
+}
+
+// EVERY CALL BEGINS WITH THIS: 1, 2, the number `own` that its own tests of its arguments gave, or 5: the first that is not 0.
+pub fn front(h: Header, store: &[u64], own: u64) -> u64
+    ensures { λ r. ⌜ r ≡ Calls.front own (held h (now (store .entry))) ⌝ }
+{
+    let number = shape_number(h, store);
+    if number != 0 {
+        return number;
+    }
+    if own != 0 {
+        return own;
+    }
+    if words_sound(h, store) {
+        return 0;
+    }
+    5
 }

@@ -15,7 +15,8 @@ use Rattle.model.specs.Store.{keyedWeighed, weightOf, aboveCutoff}
 use Rattle.model.specs.Sum.{addedTo}
 use Rattle.model.specs.declared.Size.{Size}
 use Rattle.model.proofs.Entries.{length-listed}
-use Rattle.weights.proofs.Weights.{nothing, weight-at}
+use Rattle.entries.proofs.Slots.{nothing}
+use Rattle.weights.proofs.Weights.{weight-at}
 
 -- those of a list, added to t
 abbrev pub lightAdded : Float → Float → List Keyed → Float

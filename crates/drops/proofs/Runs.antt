@@ -61,7 +61,7 @@ entry w l p₀ p₁ =
     record {
       entry = record { weight = w; body = record { loss = l; count = 1; coefs = 0 ∷ unit ∷ 0 ∷ []; rows = 1 ∷ 0 ∷ p₀ ∷ 0 ∷ 1 ∷ p₁ ∷ [] } };
       wordKey = 0;
-      phaseKey = 0;
+      phaseLossKey = 0;
     }
 
 -- a lost one of weight 0.25 and a live one of weight 0.75, not alike once both are live; cutoff 0.25
@@ -108,5 +108,5 @@ computed : taken
     ∷ (0x3fd8_0000_0000_0000 ∷ 0x3fc9_9999_9999_999a ∷ [])
     ∷ (quarter ∷ 0 ∷ [])
     ∷ []
-unfolding half quarter eighth threeQuarters unit size freshSum entry lostAndLive paulis loses Ieee.add Ieee.sub Ieee.mul Ieee.div Ieee.lt Ieee.le Ieee.eq Ieee.ofBits Ieee.toBits Lists.allBelow Lists.wordsBelow Lists.groups Lists.every Lists.some-of Lists.isEmpty Lists.joined Lists.retain Lists.altered Lists.swapRemove Floats.finite Floats.upTo Floats.finiteFromZero Entries.mapRows Entries.wordsOf Entries.entryOf Entries.listed Entries.pastCount Entries.pack Keys.shiftXor Keys.mix Keys.rowMask Keys.pick Keys.xorBelow Keys.maskSum Keys.phaseMask Keys.phaseKey Keys.phaseLossKey Keys.absorb Keys.wordKey Keys.wordKeyOf Keys.phaseKeyOf Keys.storedKey Keys.keyed Likeness.valueAt Likeness.nearAt Likeness.sameRows Likeness.alike Changes.flips Changes.flipsBy Changes.flippedRow Changes.changedBody Changes.flipMasks Changes.masksOf Changes.changedEntry Changes.changedKeyed Store.walk Store.reweighed Store.gained Store.stored-or-dropped Store.settled Store.merge Store.mergeAll Store.mergedSplit Store.testedAll Store.howMany Sums.andThen Sums.mapResult Sums.addedTo Sums.total Sums.dividedBy Sums.normalised Sums.kept Sums.truncated Sums.finished Channels.pauliArms Channels.channelArms Channels.arms Channels.qubits Channels.foldedTo Channels.totalRate Channels.live Channels.branchOf Channels.branchesOf Channels.scaled Channels.noiseSplit Channels.noiseTally Channels.channelled Reset.leavingAt Reset.leftAt Reset.drained Reset.resetSplit Reset.resetTally Numbers.firstOf Numbers.sizeSound Numbers.boundsSound Numbers.headerSound Numbers.someNotBelow Numbers.rates Numbers.ratesSound Numbers.weightSound Numbers.fitsIn Numbers.coefSound Numbers.rowSound Numbers.coefsSound Numbers.rowsSound Numbers.bodySound Numbers.weightsSound Numbers.bodiesSound Numbers.entriesSound Numbers.allZero Calls.argumentTests Calls.tests Calls.unless Calls.act Calls.performed Calls.kindOf Calls.rebuiltEntries Calls.rebuilt Calls.dirtyAfter Calls.wordsAfter Calls.splitBy Calls.testedBy Calls.plainAnswer Calls.accepted Calls.left Calls.step Calls.freshRow Calls.freshEntry Calls.freshEntries Calls.freshTests Calls.begins Calls.startDirty Calls.startKeyed Calls.leftBy Calls.start Lost.ifDone Lost.droppedFrom Lost.lightWeight Lost.lightOf Lost.truncatedFrom Lost.noiseTaken Lost.resetTaken Lost.noiseLost Lost.resetLost
+unfolding half quarter eighth threeQuarters unit size freshSum entry lostAndLive paulis loses Ieee.add Ieee.sub Ieee.mul Ieee.div Ieee.lt Ieee.le Ieee.eq Ieee.ofBits Ieee.toBits Lists.allBelow Lists.wordsBelow Lists.groups Lists.every Lists.some-of Lists.isEmpty Lists.joined Lists.retain Lists.altered Lists.swapRemove Floats.finite Floats.upTo Floats.finiteFromZero Entries.mapRows Entries.wordsOf Entries.entryOf Entries.listed Entries.pastCount Entries.pack Keys.shiftXor Keys.mix Keys.rowMask Keys.ifSet Keys.xorBelow Keys.maskXor Keys.phaseMask Keys.phasePart Keys.phaseLossKey Keys.absorb Keys.wordKey Keys.wordKeyOf Keys.phaseLossKeyOf Keys.storedKey Keys.keyed Likeness.valueAt Likeness.nearAt Likeness.sameRows Likeness.alike Changes.flips Changes.flipsBy Changes.flippedRow Changes.changedBody Changes.flipMasks Changes.masksOf Changes.changedEntry Changes.changedKeyed Store.walk Store.reweighed Store.gained Store.stored-or-dropped Store.settled Store.merge Store.mergeAll Store.mergedSplit Store.testedAll Store.howMany Sums.andThen Sums.mapResult Sums.addedTo Sums.total Sums.dividedBy Sums.normalised Sums.kept Sums.truncated Sums.finished Channels.pauliArms Channels.channelArms Channels.arms Channels.qubits Channels.foldedTo Channels.totalRate Channels.live Channels.branchOf Channels.branchesOf Channels.scaled Channels.noiseSplit Channels.noiseTally Channels.channelled Reset.leavingAt Reset.leftAt Reset.drained Reset.resetSplit Reset.resetTally Numbers.firstOf Numbers.sizeSound Numbers.boundsSound Numbers.headerSound Numbers.someNotBelow Numbers.rates Numbers.ratesSound Numbers.weightSound Numbers.fitsIn Numbers.coefSound Numbers.rowSound Numbers.coefsSound Numbers.rowsSound Numbers.bodySound Numbers.weightsSound Numbers.bodiesSound Numbers.entriesSound Numbers.allZero Calls.argumentTests Calls.tests Calls.unless Calls.act Calls.performed Calls.kindOf Calls.rebuiltEntries Calls.rebuilt Calls.dirtyAfter Calls.wordsAfter Calls.splitBy Calls.testedBy Calls.plainAnswer Calls.accepted Calls.left Calls.step Calls.freshRow Calls.freshEntry Calls.freshEntries Calls.freshTests Calls.begins Calls.startDirty Calls.startKeyed Calls.leftBy Calls.start Lost.ifDone Lost.droppedFrom Lost.lightWeight Lost.lightOf Lost.truncatedFrom Lost.noiseTaken Lost.resetTaken Lost.noiseLost Lost.resetLost
 computed = refl

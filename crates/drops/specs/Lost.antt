@@ -12,7 +12,7 @@ use Rattle.model.specs.Store.{Tally, keyedWeighed, weightOf, aboveCutoff}
 use Rattle.model.specs.Sum.{Result, done, refused, total, normalised}
 use Rattle.model.specs.Channels.{Noise, noiseTally}
 use Rattle.model.specs.Reset.{resetTally}
-use Rattle.model.specs.Calls.{Sum, Lent, Left, noise, reset, branching, engine, holding, sumOf, rebuilt, step}
+use Rattle.model.specs.Calls.{Lent, Left, noise, reset, engine, holding, worked, step}
 use Rattle.drops.specs.declared.Lost.{Lost}
 
 abbrev pub nothing : Lost
@@ -46,21 +46,17 @@ truncatedFrom cutoff t =
 
 -- ---- the calls
 
--- the sum that a channel or a reset works on: a dirty one's keys are rebuilt
-abbrev pub worked : Lent → Sum Keyed
-worked x = rebuilt branching (x .header .dirty) (sumOf x)
-
 -- an accepted channel
 unfoldable pub noiseTaken : Noise → Lent → Lost
 noiseTaken c x =
-    let m = worked x in
+    let m = worked (noise c) x in
     let t = noiseTally (holding engine m) (m .cutoff) c (m .entries) in
     record { dropped = droppedFrom (total keyedWeighed (m .entries)) t; truncated = truncatedFrom (m .cutoff) t }
 
 -- an accepted reset: no truncate, no normalise
 unfoldable pub resetTaken : ℕ → Lent → Lost
 resetTaken q x =
-    let m = worked x in
+    let m = worked (reset q) x in
     let t = resetTally (holding engine m) (m .cutoff) q (m .entries) in
     record { dropped = droppedFrom (total keyedWeighed (m .entries)) t; truncated = float zeroBits }
 

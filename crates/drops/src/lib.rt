@@ -1,7 +1,8 @@
 // The weight that a call takes away: with the branches that it drops, and with the entries that its truncating takes out. The call itself
 // normalises, which hides both. The weight is worked out on a copy of the store, made before the call; what the copy holds afterwards
-// means nothing. The four calls are those of crates/channels; the definitions are `noiseLost` and `resetLost` (specs/Lost.antt).
+// means nothing. The calls are those of crates/noise and crates/reset; the definitions are `noiseLost` and `resetLost` (specs/Lost.antt).
 use arms::Arms;
+use merging::Limits;
 use merging::Progress;
 use model::Channel;
 use model::Header;
@@ -15,13 +16,13 @@ ghost use Rattle.model.specs.Entries.{listed};
 ghost use Rattle.model.specs.Channels.{Noise, one, two};
 ghost use Rattle.model.specs.Channels as Channels;
 ghost use Rattle.model.specs.Numbers.{rates};
-ghost use Rattle.model.specs.Calls.{held};
-ghost use Rattle.model.proofs.Packed.{Packed};
+ghost use Rattle.model.specs.Calls.{held, acted, noise};
+ghost use Rattle.model.specs.Sound.{Packed, FewCoefficients};
 ghost use Rattle.arms.specs.Arms.{Stands};
 ghost use Rattle.merging.specs.Progress.{tallyOf};
-ghost use Rattle.spread.specs.Branches.{FewCoefficients};
-ghost use Rattle.noise.specs.Finish.{readied, ranBy};
-ghost use Rattle.channels.specs.Tests.{MayRun, MayReset};
+ghost use Rattle.noise.specs.Finish.{readied};
+ghost use Rattle.noise.specs.Tests.{MayRun};
+ghost use Rattle.reset.specs.Tests.{MayReset};
 ghost use Rattle.drops.specs.Lost as Spec;
 
 // What is missing of the total once branches are merged, and the weights that are truncated. (Entries that are truncated were normalised
@@ -58,7 +59,7 @@ fn light_weight(store: &[u64], size: Size, count: usize, cutoff: f64) -> f64
     requires { ⌜ Packed size count (now store) ⌝ }
     ensures { λ r. ⌜ r ≡ Spec.lightWeight cutoff (listed size count (now (store .entry))) ⌝ }
 {
-    let len = checks::entry_len(size);
+    let len = entries::entry_len(size);
     let mut sum = 0.0;
     let mut i = 0;
     while i < count {
@@ -94,15 +95,20 @@ fn ready(scratch: &mut [u64], size: Size, count: usize, dirty: bool)
 // A channel that its tests let through.
 fn run(h: Header, scratch: &mut [u64], arms: Arms) -> Lost
     requires { ⌜ MayRun (held h (now scratch)) arms ⌝ }
-    ensures { λ r. ⌜ ((c : Noise) → Stands arms c → r ≡ Spec.ifDone (ranBy c (held h (now (scratch .entry)))) (Spec.noiseTaken c (held h (now (scratch .entry))))) ⌝ }
+    ensures { λ r. ⌜ ((c : Noise) → Stands arms c → r ≡ Spec.ifDone (acted (noise c) (held h (now (scratch .entry)))) (Spec.noiseTaken c (held h (now (scratch .entry))))) ⌝ }
 {
     let size = h.size;
     let count = h.count;
     let cutoff = h.cutoff;
+    let limits = Limits {
+        size,
+        threshold: h.threshold,
+        cutoff,
+    };
     let mut saved = [0u64; 256];
     ready(scratch, size, count, h.dirty);
     let before = weights::weights_total(scratch, size, count);
-    let p = spread::spread(scratch, &mut saved, size, h.threshold, cutoff, arms, count);
+    let p = spread::spread(scratch, &mut saved, limits, arms, count);
     if p.full {
         return nothing();
     }
@@ -119,7 +125,7 @@ fn call(h: Header, scratch: &mut [u64], arms: Arms, named: bool) -> Lost
     requires { ⌜ arms .count ≤ 15 ⌝ }
     ensures { λ r. ⌜ ((c : Noise) → Stands arms c → named ≡ every (upTo (float oneBits)) (rates c) → r ≡ Spec.noiseLost c (held h (now (scratch .entry)))) ⌝ }
 {
-    let number = channels::noise_number(h, scratch, arms, named);
+    let number = noise::noise_number(h, scratch, arms, named);
     if number != 0 {
         return nothing();
     }
@@ -165,9 +171,14 @@ fn run_reset(h: Header, scratch: &mut [u64], q: usize) -> Lost
 {
     let size = h.size;
     let count = h.count;
+    let limits = Limits {
+        size,
+        threshold: h.threshold,
+        cutoff: h.cutoff,
+    };
     reset::ready(scratch, size, count, h.dirty);
     let before = weights::weights_total(scratch, size, count);
-    let p = reset::merge_lost(scratch, size, count, h.threshold, h.cutoff, q);
+    let p = reset::merge_lost(scratch, limits, count, q);
     Lost {
         dropped: dropped_from(scratch, size, p, before),
         truncated: 0.0,
@@ -178,7 +189,7 @@ fn run_reset(h: Header, scratch: &mut [u64], q: usize) -> Lost
 pub fn reset_loss_channel(h: Header, scratch: &mut [u64], q: usize) -> Lost
     ensures { λ r. ⌜ r ≡ Spec.resetLost q (held h (now (scratch .entry))) ⌝ }
 {
-    let number = channels::reset_number(h, scratch, q);
+    let number = reset::reset_number(h, scratch, q);
     if number != 0 {
         return nothing();
     }

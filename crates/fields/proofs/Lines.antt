@@ -7,13 +7,14 @@ use Prim.Native.Nat.{ℕ, zero, suc, _+_, _*_, _/_, _^_, _<_, _≤_}
 use native.Mathlib.Nat.{zero-mul, suc-mul, div-eq-of-lt-le, div-add-mod', mod-lt, add-mul, one-mul}
 use native.Mathlib.Omega.{arith}
 use lib.Dec.{eqb, ltb}
-use lib.ListN.{length, take, drop, getD, length-append, length-drop, take-append-drop}
+use lib.ListN.{length, take, drop, getD, length-drop, take-append-drop}
 use lib.Seq.{take-at, drop-at, drop-drop}
 use borrow.Author.Tests.{eq-eqb, eqb-true, lt-ltb, ltb-true}
 use Rattle.model.specs.Lists.{every, groups, joined}
 use Rattle.model.specs.Sheet.{lineEnd, columns, field, line, lineLen, sameWords, fieldValue, also, lineFields, allSome, linesFields}
 use Rattle.model.proofs.Lists.{and-both, every-at}
-use Rattle.fields.proofs.Values.{same-eq, length-field, field-read, read-field}
+use Rattle.model.proofs.Sheet.{length-field, line-cons, length-line}
+use Rattle.fields.proofs.Values.{same-eq, field-read, read-field}
 use Rattle.fields.proofs.Pieces.{every-drop, pieces-length, pieces-from, pieces-at, pieces-cut}
 
 -- ---- what a field and a line can hold
@@ -59,18 +60,6 @@ both f (some a) none r e = let z : _≡_ {A = ℕ} 0 1 = cc in absurd (omega ari
 both f (some a) (some b) r e = record { one = a; other = b; first = refl; second = refl; made = cc }
 
 -- ---- a line
-
--- a line's first field
-line-cons : (v : ℕ) (vs : List ℕ) → line (v ∷ vs) ≡ field v ++ line vs
-unfolding line joined
-line-cons v vs = append-assoc (field v) (joined (map field vs)) (lineEnd ∷ [])
-
--- 21 bytes a field, and the line's end
-pub length-line : (vs : List ℕ) → length (line vs) ≡ lineLen (length vs)
-unfolding line joined
-length-line [] = omega (arith, zero-mul columns)
-length-line (v ∷ vs) =
-    ap length (line-cons v vs) ∙ length-append (field v) (line vs) ∙ (omega (arith, length-field v, length-line vs, suc-mul (length vs) columns))
 
 -- the bytes of a line of m numbers
 numbers-line : (m : ℕ) (vs : List ℕ) → numbers m vs ≡ true → length (line vs) ≡ lineLen m

@@ -12,7 +12,8 @@ use borrow.Author.Tests.{eq-eqb, ne-eqb}
 use Rattle.model.specs.Sheet.{blank, digit, columns, leading, field, sameWords, valueFrom}
 use Rattle.model.proofs.Lists.{and-true, and-false}
 use Rattle.fields.specs.Read.{column}
-use Rattle.fields.proofs.Values.{same-last, leading-last, length-leading}
+use Rattle.model.proofs.Sheet.{length-leading}
+use Rattle.fields.proofs.Values.{same-last, leading-last}
 
 -- ---- the number, from the first byte on
 

@@ -7,9 +7,9 @@ use Prim.Native.Nat.{ℕ, zero, suc, _+_, _*_, _-_, _/_, _%_, _^_, _<_, _≤_}
 use native.Mathlib.Nat.{pow-suc, div-lt-iff-lt-mul, div-add-mod}
 use native.Mathlib.Omega.{arith}
 use lib.Dec.{eqb, ltb}
-use lib.ListN.{length, length-append}
+use lib.ListN.{length}
 use borrow.Author.Tests.{eq-eqb, ne-eqb, eqb-true, lt-ltb, le-ltb, ltb-true}
-use Rattle.model.specs.Sheet.{blank, digit, columns, leading, field, sameWords, valueFrom, fieldValue}
+use Rattle.model.specs.Sheet.{blank, digit, leading, field, sameWords, valueFrom, fieldValue}
 use Rattle.model.proofs.Lists.{and-both, and-true, and-false}
 use Rattle.fields.specs.Read.{column}
 
@@ -52,18 +52,6 @@ leading-last c v = go (eqb v 0) refl
         let z : v ≡ 0 = eqb-true v 0 e in
         ap (λ (w : ℕ). leading c w ++ blank ∷ []) (sym (ap (λ (w : ℕ). w / 10) z))
     go false e = refl
-
--- they fill their columns
-pub length-leading : (c v : ℕ) → length (leading c v) ≡ c
-unfolding leading
-length-leading zero v = refl
-length-leading (suc c) v =
-    ap length (leading-last c v) ∙ length-append (leading c (v / 10)) (column v ∷ []) ∙ (omega (arith, length-leading c (v / 10)))
-
--- a field is 21 columns
-pub length-field : (v : ℕ) → length (field v) ≡ columns
-unfolding field
-length-field v = length-append (leading 20 (v / 10)) (digit (v % 10) ∷ []) ∙ (omega (arith, length-leading 20 (v / 10)))
 
 -- ---- the number that they stand for
 

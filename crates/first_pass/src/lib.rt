@@ -7,114 +7,126 @@ use circuit::Line;
 use circuit::Verdict;
 use input::Found;
 use input::Source;
-use walk::Outcome;
-use walk::Walk;
+use passes::Outcome;
+use passes::Pass;
 
-// The walk, and how many qubits the lines so far need.
+// The pass, and how many qubits the lines so far need.
 pub struct Checked {
-    pub walk: Walk,
+    pub pass: Pass,
     pub qubits: usize,
 }
 
-fn with(walk: Walk, qubits: usize) -> Checked {
-    Checked { walk, qubits }
+fn with(pass: Pass, qubits: usize) -> Checked {
+    Checked { pass, qubits }
 }
 
 // Nothing is looked at yet.
 pub fn start() -> Checked {
-    with(walk::start(), 0)
+    with(passes::start(), 0)
 }
 
-// The walk goes on after a bad line.
+// The pass goes on after a bad line.
 pub fn resumed(c: Checked) -> Checked {
-    with(walk::resumed(c.walk), c.qubits)
+    with(passes::resumed(c.pass), c.qubits)
 }
 
 // ---- calls
 
 // The rates of a call.
-fn check_rates(l: Line, act: Act, w: Walk, qubits: usize) -> Checked {
+fn check_rates(l: Line, act: Act, pass: Pass, qubits: usize) -> Checked {
     let rates = l.rates;
     if calls::rates_sound(act, rates) {
-        return with(w, qubits);
+        return with(pass, qubits);
     }
-    with(walk::ended(w, Outcome::Rates, l.from, l.targets), qubits)
+    with(
+        passes::ended(pass, Outcome::Rates, l.from, l.targets),
+        qubits,
+    )
 }
 
 // The targets of a call, of which all are below `limit`, and its rates.
-fn check_call(line: &[u8], l: Line, act: Act, w: Walk, qubits: usize, limit: usize) -> Checked {
+fn check_call(line: &[u8], l: Line, act: Act, pass: Pass, qubits: usize, limit: usize) -> Checked {
     let r = circuit::reach(line, l.targets, circuit::takes_pairs(act), limit);
     let verdict = r.verdict;
     if let Verdict::Bad(fault) = verdict {
-        return with(walk::ended(w, Outcome::Bad(fault), r.from, r.to), qubits);
+        return with(
+            passes::ended(pass, Outcome::Bad(fault), r.from, r.to),
+            qubits,
+        );
     }
     if qubits < r.qubits {
-        return check_rates(l, act, w, r.qubits);
+        return check_rates(l, act, pass, r.qubits);
     }
-    check_rates(l, act, w, qubits)
+    check_rates(l, act, pass, qubits)
 }
 
 // ---- blocks: `begun` has the line of each REPEAT that is open, of the first 64
 
 // One more block is open.
-fn deeper(w: Walk) -> Walk {
-    let depth = w.depth;
+fn deeper(pass: Pass) -> Pass {
+    let depth = pass.depth;
     if depth < usize::MAX {
-        return walk::at_depth(w, depth + 1);
+        return passes::at_depth(pass, depth + 1);
     }
-    w
+    pass
 }
 
 // A block begins.
-fn open(begun: &mut [u64; 64], w: Walk, from: usize, to: usize) -> Walk {
-    let depth = w.depth;
+fn open(begun: &mut [u64; 64], pass: Pass, from: usize, to: usize) -> Pass {
+    let depth = pass.depth;
     if depth < 64 {
-        begun[depth] = w.line;
-        return deeper(w);
+        begun[depth] = pass.line;
+        return deeper(pass);
     }
-    walk::ended(deeper(w), Outcome::TooDeep, from, to)
+    passes::ended(deeper(pass), Outcome::TooDeep, from, to)
 }
 
 // .. ends.
-fn close(w: Walk, from: usize, to: usize) -> Walk {
-    let depth = w.depth;
+fn close(pass: Pass, from: usize, to: usize) -> Pass {
+    let depth = pass.depth;
     if 0 < depth {
-        return walk::at_depth(w, depth - 1);
+        return passes::at_depth(pass, depth - 1);
     }
-    walk::ended(w, Outcome::NoRepeat, from, to)
+    passes::ended(pass, Outcome::NoRepeat, from, to)
 }
 
 // A bad line that begins a block or ends one still does, so that the other end is not told as bad for it.
-fn matched(line: &[u8], begun: &mut [u64; 64], w: Walk, fault: Fault) -> Walk {
+fn matched(line: &[u8], begun: &mut [u64; 64], pass: Pass, fault: Fault) -> Pass {
     match fault {
-        Fault::Repeats => open(begun, w, 0, 0),
+        Fault::Repeats => open(begun, pass, 0, 0),
         Fault::After => {
             if circuit::is_closing(line) {
-                return close(w, 0, 0);
+                return close(pass, 0, 0);
             }
-            open(begun, w, 0, 0)
+            open(begun, pass, 0, 0)
         }
-        _ => w,
+        _ => pass,
     }
 }
 
 // ---- lines
 
-fn check_item(line: &[u8], begun: &mut [u64; 64], w: Walk, qubits: usize, limit: usize) -> Checked {
+fn check_item(
+    line: &[u8],
+    begun: &mut [u64; 64],
+    pass: Pass,
+    qubits: usize,
+    limit: usize,
+) -> Checked {
     let l = circuit::parse(line);
     let item = l.item;
     match item {
-        Item::Nothing => with(w, qubits),
+        Item::Nothing => with(pass, qubits),
         Item::Bad(fault) => {
-            let after = matched(line, begun, w, fault);
+            let after = matched(line, begun, pass, fault);
             with(
-                walk::ended(after, Outcome::Bad(fault), l.from, l.to),
+                passes::ended(after, Outcome::Bad(fault), l.from, l.to),
                 qubits,
             )
         }
-        Item::Call(act) => check_call(line, l, act, w, qubits, limit),
-        Item::Repeat(_) => with(open(begun, w, l.from, l.to), qubits),
-        Item::Close => with(close(w, l.from, l.to), qubits),
+        Item::Call(act) => check_call(line, l, act, pass, qubits, limit),
+        Item::Repeat(_) => with(open(begun, pass, l.from, l.to), qubits),
+        Item::Close => with(close(pass, l.from, l.to), qubits),
     }
 }
 
@@ -130,12 +142,12 @@ fn innermost(begun: &[u64; 64], depth: usize) -> u64 {
 }
 
 // At the circuit's end no block is open.
-fn check_end(begun: &[u64; 64], w: Walk) -> Walk {
-    let depth = w.depth;
+fn check_end(begun: &[u64; 64], pass: Pass) -> Pass {
+    let depth = pass.depth;
     if 0 < depth {
-        return walk::ended(w, Outcome::Unclosed(innermost(begun, depth)), 0, 0);
+        return passes::ended(pass, Outcome::Unclosed(innermost(begun, depth)), 0, 0);
     }
-    walk::ended(w, Outcome::Done, 0, 0)
+    passes::ended(pass, Outcome::Done, 0, 0)
 }
 
 fn check_line(
@@ -145,18 +157,18 @@ fn check_line(
     c: Checked,
     limit: usize,
 ) -> Checked {
-    let before = c.walk;
+    let before = c.pass;
     let window = input::next_line(s, bytes, before.window);
     let found = window.found;
     let from = window.from;
     let to = window.to;
-    let w = walk::moved(before, window);
+    let pass = passes::moved(before, window);
     match found {
-        Found::Line => check_item(&bytes[from..to], begun, w, c.qubits, limit),
-        Found::End => with(check_end(begun, w), c.qubits),
-        Found::TooLong => with(walk::ended(w, Outcome::TooLong, 0, 0), c.qubits),
-        Found::Failed => with(walk::ended(w, Outcome::Failed, 0, 0), c.qubits),
-        Found::Cut => with(walk::ended(w, Outcome::Cut, 0, 0), c.qubits),
+        Found::Line => check_item(&bytes[from..to], begun, pass, c.qubits, limit),
+        Found::End => with(check_end(begun, pass), c.qubits),
+        Found::TooLong => with(passes::ended(pass, Outcome::TooLong, 0, 0), c.qubits),
+        Found::Failed => with(passes::ended(pass, Outcome::Failed, 0, 0), c.qubits),
+        Found::Cut => with(passes::ended(pass, Outcome::Cut, 0, 0), c.qubits),
     }
 }
 
@@ -173,7 +185,7 @@ pub fn check(
     let mut turns = u64::MAX;
     while turns > 0 {
         c = check_line(s, bytes, begun, c, limit);
-        if !walk::is_going(c.walk) {
+        if !passes::is_going(c.pass) {
             return c;
         }
         turns -= 1;

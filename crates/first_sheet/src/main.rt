@@ -16,7 +16,7 @@ fn main() {
         k: 1,
         capacity: 2,
     };
-    let begun = sum::fresh(size, 0.5, 0.0, &mut store);
+    let begun = fresh::fresh(size, 0.5, 0.0, &mut store);
     let mut out = [0u8; 383];
     let written = sheet::write_sheet(begun.header, &store, &mut out);
     print_first(&out, written.length);

@@ -7,7 +7,7 @@ use lib.ListN.{length, take, drop, set, replicate, length-replicate, replicate-a
 use lib.Seq.{drop-at}
 use Rattle.model.specs.Floats.{oneBits}
 use Rattle.model.specs.Entries.{rowsBelow, headLen, coefsLen, wordsOf}
-use Rattle.model.specs.Keys.{usualSalts, wordKeyOf, phaseKeyOf, keyed}
+use Rattle.model.specs.Keys.{usualSalts, wordKeyOf, phaseLossKeyOf, keyed}
 use Rattle.model.specs.Calls.{freshRow, freshEntry}
 use Rattle.model.specs.declared.Size.{Size}
 use Rattle.model.proofs.Entries.{part-tail}
@@ -27,7 +27,7 @@ module _ (s : Size) (w : List ℕ) (e : w ≡ rowsOnly s) where
   pub rows-read : take (length w - rowsStart s) (drop (rowsStart s) w) ≡ freshRows s
   rows-read = part-tail (rowsStart s) w ∙ ap (drop (rowsStart s)) e ∙ drop-at (replicate (rowsStart s) 0) (freshRows s) (rowsStart s) (length-replicate (rowsStart s) 0)
 
-  pub head-written : (key phase : ℕ) → 1 ≤ s .k → key ≡ wordKeyOf (s .n) (freshEntry s .body) → phase ≡ phaseKeyOf usualSalts (s .n) (freshEntry s .body)
+  pub head-written : (key phase : ℕ) → 1 ≤ s .k → key ≡ wordKeyOf (s .n) (freshEntry s .body) → phase ≡ phaseLossKeyOf usualSalts (s .n) (freshEntry s .body)
       → set (set (set (set (set w 0 oneBits) 2 key) 3 phase) 4 1) 6 oneBits ≡ wordsOf (keyed usualSalts (s .n) (freshEntry s))
   unfolding freshEntry keyed wordsOf
   head-written key phase h p q =

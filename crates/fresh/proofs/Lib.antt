@@ -1,3 +1,4 @@
 pub mod Parts
 pub mod Rows
 pub mod Entry
+pub mod Begun

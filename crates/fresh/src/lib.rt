@@ -1,4 +1,5 @@
-// The words of the fresh entry: document 01, "Store words".
+// The fresh entry, and the call that begins a sum with it: document 01, "Store words".
+use model::Answer;
 use model::Size;
 ghost use mathlib.Core.Path.{_≡_};
 ghost use Prim.Native.Nat.{_*_, _<_, _≤_};
@@ -6,8 +7,8 @@ ghost use lib.ListN.{length};
 ghost use Rattle.model.specs.Entries.{entryLen, rowsBelow, wordsOf};
 ghost use Rattle.model.specs.Keys.{usualSalts, keyed};
 ghost use Rattle.model.specs.Calls as Calls;
-ghost use Rattle.model.specs.Calls.{freshRow, freshEntry};
-ghost use Rattle.checks.specs.Sized.{Within};
+ghost use Rattle.model.specs.Calls.{freshRow, freshEntry, gave, start};
+ghost use Rattle.entries.specs.Within.{Within};
 
 // The bits of 1.
 const ONE: u64 = 0x3ff0_0000_0000_0000;
@@ -63,10 +64,31 @@ pub fn fresh_entry(e: &mut [u64], size: Size)
     words::clear(&mut e[..rows]);
     fresh_rows(&mut e[rows..], n);
     let word_key = keys::word_key(&e[rows..], n);
-    let phase_key = keys::phase_loss_key(keys::usual_salts(), n, &e[rows..], 0);
+    let phase_loss_key = keys::phase_loss_key(keys::usual_salts(), n, &e[rows..], 0);
     e[0] = ONE;
     e[2] = word_key;
-    e[3] = phase_key;
+    e[3] = phase_loss_key;
     e[4] = 1;
     e[6] = ONE;
+}
+
+// THE CALL: a sum of the fresh entry, if 1 is above the cutoff, in a store holding any words. 1, 2.
+pub fn fresh(size: Size, threshold: f64, cutoff: f64, store: &mut [u64]) -> Answer
+    ensures { λ r. ⌜ gave r (now (store .exit)) ≡ start (Calls.fresh size threshold cutoff) (now (store .entry)) ⌝ }
+{
+    let words = store.len();
+    if !checks::size_sound(size, words) {
+        return answers::plain_answer(answers::zero_header(), 1);
+    }
+    if !checks::bounds_sound(threshold, cutoff) {
+        return answers::plain_answer(answers::zero_header(), 2);
+    }
+    if cutoff < 1.0 {
+        let len = entries::entry_len(size);
+        fresh_entry(&mut store[..len], size);
+        words::clear(&mut store[len..]);
+        return answers::plain_answer(answers::header(size, 1, threshold, cutoff, false), 0);
+    }
+    words::clear(&mut store[..]);
+    answers::plain_answer(answers::header(size, 0, threshold, cutoff, false), 0)
 }

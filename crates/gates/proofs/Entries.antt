@@ -6,12 +6,12 @@ use native.Mathlib.Omega.{arith}
 use lib.ListN.{length, take, drop, length-drop, drop-of-length-le}
 use lib.Seq.{take-add, length-take-le}
 use borrow.Rule.Slice.PartMut.{putMid}
-use Rattle.model.specs.Entries.{Keyed, headLen, coefsLen, entryLen, wordsOf, entryOf, mapRows}
+use Rattle.model.specs.Entries.{Keyed, headLen, coefsLen, entryLen, wordsOf, entryOf, mapRows, bodyIn}
 use Rattle.model.specs.Store.{keyedWeighed}
 use Rattle.model.specs.Gates.{turnedRow, turnedBody, turned}
 use Rattle.model.specs.declared.Gate.{Gate}
 use Rattle.model.specs.declared.Size.{Size}
-use Rattle.model.proofs.Entries.{bodyOf, part-tail}
+use Rattle.model.proofs.Entries.{part-tail}
 use Rattle.model.proofs.Packed.{Fits, words-entry}
 use Rattle.model.proofs.Rows.{mapRows-length}
 
@@ -24,7 +24,7 @@ module _ (s : Size) (g : Gate) (e : List ℕ) (l : length e ≡ entryLen s) wher
   turned-fits =
       record {
         coefs = length-take-le (coefsLen s) (drop headLen e) (omega (arith, length-drop headLen e));
-        rows = mapRows-length (s .n) (turnedRow g) (bodyOf s e .rows);
+        rows = mapRows-length (s .n) (turnedRow g) (bodyIn s e .rows);
       }
 
   -- its rows are lent, and come back turned

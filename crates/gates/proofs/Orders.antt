@@ -10,13 +10,13 @@ use lib.ListN.{length}
 use lib.Seq.{take-all}
 use Rattle.model.proofs.Xor.{xor-cancel, xor-swap}
 use Rattle.model.specs.Entries.{Row, rowAt, rowsBelow, mapRows}
-use Rattle.model.specs.Keys.{bit, pick}
+use Rattle.model.specs.Keys.{bit, ifSet}
 use Rattle.model.specs.Changes.{flips, flipsBy, flippedRow}
 use Rattle.model.specs.Gates.{xorBit, turnedRow}
 use Rattle.model.specs.declared.BranchMutation.the-variants.{Pauli as pauli}
 use Rattle.model.specs.declared.Gate.the-variants.{H, S, Cnot}
 use Rattle.model.specs.declared.Pauli.the-variants.{Z}
-use Rattle.model.proofs.Picks.{bit-lt, bit-xor, bit-none, bit-pow-other}
+use Rattle.model.proofs.IfSet.{bit-lt, bit-xor, bit-none, bit-pow-other}
 use Rattle.model.proofs.Rows.{same-row, mapRows-row}
 use Rattle.model.proofs.Paulis.{turnedBy, bit-flipped, undone, h-undoes, z-is}
 use Rattle.gates.proofs.Rows.{rows-ext, own-rows}
@@ -28,14 +28,14 @@ repeated (suc k) f x = f (repeated k f x)
 
 -- ---- bits
 
-bit-unpicked : (j q b : ℕ) → (j ≡ q → ⊥) → bit j (pick b (2 ^ q)) ≡ 0
-unfolding pick
+bit-unpicked : (j q b : ℕ) → (j ≡ q → ⊥) → bit j (ifSet b (2 ^ q)) ≡ 0
+unfolding ifSet
 bit-unpicked j q zero ne = bit-none j
 bit-unpicked j q (suc b) ne = bit-pow-other j q ne
 
 -- a bit other than bit q is as it was
 bit-kept : (w q b j : ℕ) → (j ≡ q → ⊥) → bit j (xorBit w q b) ≡ bit j w
-bit-kept w q b j ne = bit-xor j w (pick b (2 ^ q)) ∙ ap (bitXor (bit j w)) (bit-unpicked j q b ne) ∙ xor-zero-r (bit j w)
+bit-kept w q b j ne = bit-xor j w (ifSet b (2 ^ q)) ∙ ap (bitXor (bit j w)) (bit-unpicked j q b ne) ∙ xor-zero-r (bit j w)
 
 -- ---- H
 
@@ -51,7 +51,7 @@ h-four q r = h-twice q (repeated 2 (turnedRow (H q)) r) ∙ h-twice q r
 
 z-twice : (q : ℕ) (r : Row) → flippedRow (pauli Z q) (flippedRow (pauli Z q) r) ≡ r
 unfolding flippedRow flipsBy flips
-z-twice q r = same-row refl refl (xor-cancel (r .phase) (pick (bit q (r .x)) 2))
+z-twice q r = same-row refl refl (xor-cancel (r .phase) (ifSet (bit q (r .x)) 2))
 
 -- S twice is Z
 pub s-four : (q : ℕ) (r : Row) → repeated 4 (turnedRow (S q)) r ≡ r

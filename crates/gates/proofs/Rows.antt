@@ -7,8 +7,7 @@ use native.Mathlib.Omega.{arith}
 use lib.ListN.{length, take, drop, getD, length-append, length-drop, drop-of-length-le}
 use lib.Seq.{take-at, take-add, length-take-le, drop-at, drop-drop, getD-take, getD-drop}
 use Rattle.model.specs.Lists.{wordsBelow}
-use Rattle.model.specs.Entries.{Row, rowAt, rowWords, rowsBelow}
-use Rattle.model.proofs.Groups.{lent}
+use Rattle.model.specs.Entries.{Row, rowAt, rowWords, rowsBelow, withStretch}
 use Rattle.model.proofs.Rows.{wordsBelow-length, same-row}
 
 -- a row's words
@@ -72,7 +71,7 @@ module _ (f : Row → Row) (old : List ℕ) where
 
   -- rows 2i and 2i + 1 are lent, and come back as f makes them
   pub pair-next : {w new : List ℕ} (i : ℕ) → w ≡ so-far (2 * i) → new ≡ rowsBelow (λ r. f (rowAt (take (i * 6 + 6 - i * 6) (drop (i * 6) w)) r)) 2
-      → lent 6 i w new ≡ so-far (2 * (i + 1))
+      → withStretch 6 i w new ≡ so-far (2 * (i + 1))
   unfolding wordsBelow
   pair-next {w} {new} i e p =
       let k = i * 6 + 6 - i * 6 in

@@ -1,4 +1,7 @@
 // Gates, after Aaronson and Gottesman: document 01, point 8. A gate turns every row of every entry; keys stay as they are, and are stale.
+mod call;
+
+pub use call::gate;
 use model::Gate;
 use model::Size;
 ghost use mathlib.Core.Path.{_≡_};
@@ -7,13 +10,13 @@ ghost use mathlib.Core.List.{map};
 ghost use Prim.Native.Nat.{_*_, _^_, _<_, _≤_};
 ghost use lib.ListN.{length};
 ghost use Rattle.model.specs.Entries.{entryLen, rowAt, rowWords, rowsBelow, mapRows, entryOf, wordsOf, listed};
+ghost use Rattle.model.specs.Keys.{ifSet};
 ghost use Rattle.model.specs.Store.{keyedWeighed};
 ghost use Rattle.model.specs.Gates.{turnedRow, turned, gateQubits};
 ghost use Rattle.model.specs.Numbers.{someNotBelow, bothTheSame};
-ghost use Rattle.model.specs.Calls as Calls;
 ghost use Rattle.model.specs.declared.Gate.the-variants.{H as h-gate, S as s-gate, Cnot as cnot-gate};
-ghost use Rattle.model.proofs.Packed.{Packed};
-ghost use Rattle.checks.specs.Sized.{Within};
+ghost use Rattle.model.specs.Sound.{Packed};
+ghost use Rattle.entries.specs.Within.{Within};
 ghost use Rattle.gates.specs.Qubits.{GateBelow};
 
 // ---- a row. Bits are taken by masks: `w & power(q)` is 2^q if bit q of w is set, else 0.
@@ -25,6 +28,13 @@ pub fn power(q: usize) -> u64
     1 << q
 }
 
+// m if b is not 0, else 0.
+fn select(b: u64, m: u64) -> u64
+    ensures { λ r. ⌜ r ≡ ifSet b m ⌝ }
+{
+    if b == 0 { 0 } else { m }
+}
+
 // H: r ^= x·z, swap x and z.
 pub fn turn_h(row: &mut [u64], q: usize)
     requires { ⌜ (length (now row) ≡ 3) × (q < 64) ⌝ }
@@ -34,7 +44,7 @@ pub fn turn_h(row: &mut [u64], q: usize)
     let x = row[0];
     let z = row[1];
     let apart = (x ^ z) & at;
-    row[2] = row[2] ^ keys::select(x & z & at, 2);
+    row[2] = row[2] ^ select(x & z & at, 2);
     row[0] = x ^ apart;
     row[1] = z ^ apart;
 }
@@ -46,7 +56,7 @@ pub fn turn_s(row: &mut [u64], q: usize)
 {
     let x = row[0] & power(q);
     let z = row[1];
-    row[2] = row[2] ^ keys::select(z & x, 2);
+    row[2] = row[2] ^ select(z & x, 2);
     row[1] = z ^ x;
 }
 
@@ -59,10 +69,10 @@ pub fn turn_cnot(row: &mut [u64], a: usize, b: usize)
     let to = power(b);
     let x = row[0];
     let z = row[1];
-    let zb = keys::select(z & to, at);
-    let xb = keys::select(x & to, at);
-    row[2] = row[2] ^ keys::select(x & zb & (xb ^ z ^ at), 2);
-    row[0] = x ^ keys::select(x & at, to);
+    let zb = select(z & to, at);
+    let xb = select(x & to, at);
+    row[2] = row[2] ^ select(x & zb & (xb ^ z ^ at), 2);
+    row[0] = x ^ select(x & at, to);
     row[1] = z ^ zb;
 }
 
@@ -118,7 +128,7 @@ pub fn turn_entries(store: &mut [u64], size: Size, count: usize, gate: Gate)
     requires { ⌜ Packed size count (now store) × GateBelow 64 gate ⌝ }
     ensures { λ _. ⌜ Packed size count (now (store .exit)) × (listed size count (now (store .exit)) ≡ map (turned keyedWeighed (size .n) gate) (listed size count (now (store .entry)))) ⌝ }
 {
-    let len = checks::entry_len(size);
+    let len = entries::entry_len(size);
     let mut place = 0;
     while place < count {
         let at = place * len;

@@ -103,9 +103,9 @@ fn is_all(before: Extent, now: Extent) -> bool {
 // ---- what is said
 
 fn say_nothing_run(why: &[u8]) -> Source {
-    rows::say(b"run_circuit: ");
-    rows::say(why);
-    rows::say(b"; nothing was run\n");
+    printing::say(b"run_circuit: ");
+    printing::say(why);
+    printing::say(b"; nothing was run\n");
     none()
 }
 
@@ -123,8 +123,8 @@ fn say_unread(name: &[u8]) -> Source {
 }
 
 fn say_changed(name: &[u8]) -> Source {
-    rows::say(name);
-    rows::say(b": the file changed while it was read\n");
+    printing::say(name);
+    printing::say(b": the file changed while it was read\n");
     say_nothing_run(b"the circuit could not be read whole")
 }
 

@@ -9,9 +9,9 @@ use lib.Bits.{bitXor, xor-zero-r}
 use lib.ListN.{getD, set, replicate, length-set, length-replicate}
 use lib.Seq.{getD-set-same, getD-set-other}
 use Rattle.model.specs.Entries.{phaseAt}
-use Rattle.model.specs.Keys.{rowMask, bit, pick, maskSum, phaseMask, phaseKey}
+use Rattle.model.specs.Keys.{rowMask, bit, ifSet, maskXor, phaseMask, phasePart}
 use Rattle.model.specs.declared.Salts.{Salts}
-use Rattle.model.proofs.Sums.{maskSum-ext, maskSum-clear, phaseKey-next}
+use Rattle.model.proofs.Sums.{maskXor-ext, maskXor-clear, phasePart-next}
 use Rattle.keys.specs.Tables.{PhaseMasks}
 
 -- ---- a table filled
@@ -52,7 +52,7 @@ module _ (s : Salts) (i : ℕ) (t : List ℕ) where
 
   module _ (l : i < 128) (f : Filled s i t) where
     own : (p : ℕ) → p < 4 → getD three (4 * i + p) 0 ≡ phaseMask s i p
-    unfolding phaseMask pick
+    unfolding phaseMask ifSet
     own zero h = elsewhere (4 * i + 0) (λ e. omega arith) (λ e. omega arith) (λ e. omega arith) ∙ f .zeros (4 * i + 0) (omega arith)
     own (suc zero) h =
         getD-set-other two (4 * i + 3) (4 * i + 1) (bitXor imag sign) 0 (λ e. omega arith) ∙ getD-set-other one (4 * i + 2) (4 * i + 1) sign 0 (λ e. omega arith)
@@ -87,15 +87,15 @@ unfolding phaseMask
 low-phase s i p =
     let a : bit 0 (p % 4) ≡ bit 0 p = omega arith in
     let b : bit 1 (p % 4) ≡ bit 1 p = omega arith in
-    ap₂ (λ (x y : ℕ). bitXor (pick x (rowMask i (s .imag))) (pick y (rowMask i (s .sign)))) a b
+    ap₂ (λ (x y : ℕ). bitXor (ifSet x (rowMask i (s .imag))) (ifSet y (rowMask i (s .sign)))) a b
 
-pub picked-next : {h : ℕ} (t rows : List ℕ) (m i : ℕ) → i < m → ((s : Salts) → PhaseMasks s m t → h ≡ phaseKey s i (phaseAt rows))
-    → (s : Salts) → PhaseMasks s m t → bitXor h (getD t (4 * i + phaseAt rows i % 4) 0) ≡ phaseKey s (i + 1) (phaseAt rows)
+pub picked-next : {h : ℕ} (t rows : List ℕ) (m i : ℕ) → i < m → ((s : Salts) → PhaseMasks s m t → h ≡ phasePart s i (phaseAt rows))
+    → (s : Salts) → PhaseMasks s m t → bitXor h (getD t (4 * i + phaseAt rows i % 4) 0) ≡ phasePart s (i + 1) (phaseAt rows)
 picked-next t rows m i l e s f =
-    phaseKey-next s i (phaseAt rows) (e s f) (f .at i (phaseAt rows i % 4) l (omega arith) ∙ low-phase s i (phaseAt rows i))
+    phasePart-next s i (phaseAt rows) (e s f) (f .at i (phaseAt rows i % 4) l (omega arith) ∙ low-phase s i (phaseAt rows i))
 
 -- ---- no qubit lost
 
-pub none-lost : (salt n loss : ℕ) → loss ≡ 0 → 0 ≡ maskSum salt n (λ q. bit q loss)
+pub none-lost : (salt n loss : ℕ) → loss ≡ 0 → 0 ≡ maskXor salt n (λ q. bit q loss)
 none-lost salt n loss e =
-    sym (maskSum-ext salt n (λ q. bit q loss) (λ q. 0) (λ q h. ap (bit q) e ∙ ap (λ (x : ℕ). x % 2) (zero-div (2 ^ q))) ∙ maskSum-clear salt n)
+    sym (maskXor-ext salt n (λ q. bit q loss) (λ q. 0) (λ q h. ap (bit q) e ∙ ap (λ (x : ℕ). x % 2) (zero-div (2 ^ q))) ∙ maskXor-clear salt n)

@@ -26,10 +26,6 @@ module _ (s : Size) (threshold : Float) (a b : Body) where
   unfolding alike
   unlike-count h = rw (alike, ne-eqb (a .count) (b .count)) (simp and-false)
 
-  pub unlike-row : (j : ℕ) → j < rowsLen s → (getD (a .rows) j 0 ≡ getD (b .rows) j 0 → ⊥) → alike s threshold a b ≡ false
-  unfolding alike sameRows
-  unlike-row j l h = rw (alike, sameRows, all-not (sameAt (a .rows) (b .rows)) (rowsLen s) j l (ne-eqb _ _ h)) (simp and-false)
-
   pub unlike-value : (j : ℕ) → j < a .count → nearAt (square threshold) a b j ≡ false → alike s threshold a b ≡ false
   unfolding alike
   unlike-value j l h = rw (alike, all-not (nearAt (square threshold) a b) (a .count) j l h) (simp and-false)
@@ -41,7 +37,7 @@ module _ (s : Size) (threshold : Float) (a b : Body) where
   alike-all hl hc j m ej em hr hv =
       rw (alike, sameRows, eq-eqb (a .loss) (b .loss), eq-eqb (a .count) (b .count), rw ej at hr, rw em at hv)
 
--- The first m coefficients are near, in any two bodies that have the coefficients given: what the loop over `near_at` has shown so far.
+-- The first m coefficients are near, in any two bodies that have the coefficients given: what a loop over `near_by` has shown so far.
 abbrev pub NearBelow : Float → (existing other : List ℕ) → (count m : ℕ) → Type 0
 NearBelow limit existing other count m =
     (a b : Body) → a .coefs ≡ existing → b .coefs ≡ other → b .count ≡ count → allBelow (nearAt limit a b) m ≡ true
@@ -50,7 +46,7 @@ module _ (limit : Float) (existing other : List ℕ) (count : ℕ) where
   pub near-none : NearBelow limit existing other count 0
   near-none a b ea eb ec = all-none (nearAt limit a b)
 
-  -- `near` is what `near_at` ensures
+  -- `near` is what `near_by` ensures
   pub near-more : (m : ℕ) (r : Bool)
       (near : (a b : Body) → a .coefs ≡ existing → b .coefs ≡ other → b .count ≡ count → r ≡ nearAt limit a b m)
       → r ≡ true → NearBelow limit existing other count m → NearBelow limit existing other count (m + 1)

@@ -1,11 +1,11 @@
-// Document 01, point 2: likeness of two entries, each given as its words.
+// Document 01, point 2: when a coefficient of one entry is near the other's value at its index.
 ghost use mathlib.Core.Path.{_≡_};
 ghost use mathlib.Core.Bool.{true};
 ghost use Prim.Native.Nat.{_+_, _*_, _≤_};
-ghost use lib.ListN.{length, getD};
+ghost use lib.ListN.{length};
 ghost use Rattle.model.specs.Floats.{float, finite};
-ghost use Rattle.model.specs.Entries.{Body, entryLen, entryOf, reAt, imAt};
-ghost use Rattle.model.specs.Likeness.{valueAt, nearAt, alike};
+ghost use Rattle.model.specs.Entries.{Body, reAt, imAt};
+ghost use Rattle.model.specs.Likeness.{valueAt, nearAt};
 ghost use Rattle.likeness.specs.Rising.{rising, Rises};
 ghost use Rattle.likeness.specs.Same.{SameFinite};
 
@@ -125,56 +125,4 @@ pub fn near_by(
     let re = words::float_of(existing[at + 1]) - value.re;
     let im = words::float_of(existing[at + 2]) - value.im;
     re * re + im * im < limit
-}
-
-// The same, with nothing known of the indices.
-pub fn near_at(existing: &[u64], other: &[u64], count: usize, j: usize, limit: f64) -> bool
-    requires { ⌜ 3 * j + 3 ≤ length (now existing) ⌝ }
-    requires { ⌜ 3 * count ≤ length (now other) ⌝ }
-    ensures { λ r. ⌜ ((a b : Body) → a .coefs ≡ now (existing .entry) → b .coefs ≡ now (other .entry) → b .count ≡ count → r ≡ nearAt limit a b j) ⌝ }
-{
-    near_by(existing, other, count, j, limit, false)
-}
-
-// The two entries are alike: equal loss (word 1), coefficient count (word 4) and rows (from word 5 + 3k on), and each
-// coefficient of the existing one is near. What is cheap to compare comes first, and the first difference ends it.
-pub fn structurally_equal(
-    size: model::Size,
-    threshold: f64,
-    existing: &[u64],
-    other: &[u64],
-) -> bool
-    requires { ⌜ (size .n ≤ 64) × (size .k ≤ 64) ⌝ }
-    requires { ⌜ (length (now existing) ≡ entryLen size) × (length (now other) ≡ entryLen size) × (getD (now other) 4 0 ≤ size .k) ⌝ }
-    ensures { λ r. ⌜ r ≡ alike size threshold (entryOf size (now (existing .entry)) .entry .body) (entryOf size (now (other .entry)) .entry .body) ⌝ }
-{
-    if existing[1] != other[1] {
-        return false;
-    }
-    if existing[4] != other[4] {
-        return false;
-    }
-    let rows = 5 + 3 * size.k;
-    let words = 6 * size.n;
-    let mut j = 0;
-    while j < words {
-        let at = rows + j;
-        if existing[at] != other[at] {
-            return false;
-        }
-        j += 1;
-    }
-    let existing_coefs = &existing[5..rows];
-    let other_coefs = &other[5..rows];
-    let count = existing[4] as usize;
-    let limit = threshold * threshold;
-    let mut m = 0;
-    while m < count {
-        if near_at(existing_coefs, other_coefs, count, m, limit) {
-            m += 1;
-        } else {
-            return false;
-        }
-    }
-    true
 }

@@ -11,7 +11,7 @@ fn read_calls(given: &[u8], from: usize, calls: &mut [u64]) -> usize {
     let mut at = from;
     let mut i: usize = 0;
     while i < 64 {
-        at = trial::skip(given, at);
+        at = test_support::skip(given, at);
         if given.len() <= at {
             return i;
         }
@@ -30,7 +30,7 @@ fn read_call(given: &[u8], at: usize, calls: &mut [u64], start: usize) -> usize 
         return at;
     }
     let end = start + 18;
-    trial::read_item(given, at, &mut calls[start..end])
+    test_support::read_item(given, at, &mut calls[start..end])
 }
 
 // Word j of an entry, 0 for a key.
@@ -68,26 +68,26 @@ fn clear_keys(words: &mut [u64], len: usize) {
 
 fn tell_sum(number: u64, h: Header, store: &mut [u64], len: usize) {
     clear_keys(store, len);
-    trial::text(b"gives");
-    trial::number(number);
-    trial::text(b", count");
-    trial::number(h.count as u64);
-    trial::text(b", flag");
-    trial::number(h.dirty as u64);
-    trial::text(b", digest");
-    trial::number(trial::digest(store));
-    trial::text(b"\n");
+    test_support::text(b"gives");
+    test_support::number(number);
+    test_support::text(b", count");
+    test_support::number(h.count as u64);
+    test_support::text(b", flag");
+    test_support::number(h.dirty as u64);
+    test_support::text(b", digest");
+    test_support::number(test_support::digest(store));
+    test_support::text(b"\n");
 }
 
 fn tell_record(kind: u64, record: &[u64], text: &[u8]) {
-    trial::number(kind);
-    trial::text(b":");
-    trial::numbers(record, 0, 7);
-    trial::text(b", record");
-    trial::number(trial::digest(record));
-    trial::text(b", text");
-    trial::number(trial::digest_bytes(text));
-    trial::text(b"\n");
+    test_support::number(kind);
+    test_support::text(b":");
+    test_support::numbers(record, 0, 7);
+    test_support::text(b", record");
+    test_support::number(test_support::digest(record));
+    test_support::text(b", text");
+    test_support::number(test_support::digest_bytes(text));
+    test_support::text(b"\n");
 }
 
 // Record i; if it is a view's, its keys put to 0.
@@ -95,13 +95,13 @@ fn hide_keys(calls: &[u64], log: &mut [u64], i: usize) {
     if 64 <= i {
         return;
     }
-    if trial::word_at(calls, 18 * i) != 14 {
+    if test_support::word_at(calls, 18 * i) != 14 {
         return;
     }
     let from = 588 * i + 9;
     let to = from + 2;
     if to <= log.len() {
-        trial::fill_words(&mut log[from..to], 0);
+        test_support::fill_words(&mut log[from..to], 0);
     }
 }
 
@@ -129,7 +129,7 @@ fn tell_call(calls: &[u64], log: &[u64], text: &[u8], i: usize) {
         return;
     }
     tell_record(
-        trial::word_at(calls, 18 * i),
+        test_support::word_at(calls, 18 * i),
         &log[from..to],
         &text[at..end],
     );
@@ -152,8 +152,8 @@ fn keep_sheet(log: &[u64], text: &[u8], count: usize, sheet: &mut [u8]) -> usize
         return 0;
     }
     let last = count - 1;
-    let length = trial::word_at(log, 588 * last + 6) as usize;
-    trial::keep_bytes(sheet, text, 32_768 * last, length);
+    let length = test_support::word_at(log, 588 * last + 6) as usize;
+    test_support::keep_bytes(sheet, text, 32_768 * last, length);
     length
 }
 
@@ -221,7 +221,7 @@ fn run_both(start: [u64; 18], calls: &[u64]) {
 fn run_given(given: &[u8]) {
     let mut start = [0u64; 18];
     let mut calls = [0u64; 1152];
-    let at = trial::read_item(given, 0, &mut start);
+    let at = test_support::read_item(given, 0, &mut start);
     let count = read_calls(given, at, &mut calls);
     if count <= 64 {
         let end = 18 * count;

@@ -16,21 +16,22 @@ use Rattle.model.specs.Keys.{usualSalts, storedKey}
 use Rattle.model.specs.Changes.{masksOf, changedKeyed}
 use Rattle.model.specs.Likeness.{alike}
 use Rattle.model.specs.Store.{keyedWeighed, reweighed, walk, Walked}
-use Rattle.model.specs.declared.BranchMutation.{BranchMutation}
 use Rattle.model.specs.declared.Found.the-variants.{At}
 use Rattle.model.specs.declared.Size.{Size}
 use Rattle.model.proofs.Xor.{xor-assoc}
 use Rattle.model.proofs.Groups.{stride-le}
 use Rattle.model.proofs.Entries.{length-stretch, length-listed, listed-at}
-use Rattle.model.proofs.Packed.{Packed, within, more-listed}
-use Rattle.keys.specs.Changes.{changeOf}
-use Rattle.keys.specs.declared.Change.{Change}
-use Rattle.branch.proofs.Made.{branchOf, made-entry, made-length}
-use Rattle.store.specs.Branch.{Searched}
-use Rattle.store.specs.declared.Search.{Search}
+use Rattle.model.specs.Sound.{Packed}
+use Rattle.model.proofs.Packed.{within, more-listed}
+use Rattle.changes.specs.Changes.{changeOf}
+use Rattle.changes.specs.declared.Change.{Change}
+use Rattle.branch.proofs.Made.{made-entry, made-length}
 use Rattle.seeking.specs.Noted.{seenAt, Noted}
+use Rattle.seeking.specs.Walk.{Searched}
+use Rattle.seeking.specs.declared.Search.{Search}
 use Rattle.seeking.proofs.Noting.{key-words, SameKeys}
-use Rattle.merging.specs.Progress.{appended}
+use Rattle.merging.specs.Progress.{mutationOf, branchIn, Changes, appended}
+use Rattle.merging.specs.declared.Branch.{Branch}
 
 -- ---- its search is that of its parent, changed: the weight plays no part
 
@@ -45,41 +46,40 @@ walk-blind s threshold v b i (e ∷ es) =
     later)
     (walk-blind s threshold v b (suc i) es)
 
-module _ (s : Size) (count : ℕ) (w : List ℕ) (g : Packed s count w) (m : BranchMutation) (weight i : ℕ) (h : i < count) where
+module _ (s : Size) (count : ℕ) (w : List ℕ) (g : Packed s count w) (b : Branch) (h : b .parent < count) where
   abbrev parent : List ℕ
-  parent = stretch s w i
+  parent = stretch s w (b .parent)
 
   abbrev pub made : List ℕ
-  made = wordsOf (branchOf s m weight parent)
+  made = wordsOf (branchIn s w b)
 
   parent-length : length parent ≡ entryLen s
-  parent-length = length-stretch s w i count (within s count w g) h
+  parent-length = length-stretch s w (b .parent) count (within s count w g) h
 
   -- its words hold it
-  pub made-holds : entryOf s made ≡ branchOf s m weight parent
-  made-holds = made-entry s m weight parent parent-length
+  pub made-holds : entryOf s made ≡ branchIn s w b
+  made-holds = made-entry s (mutationOf b) (b .weight) parent parent-length
 
   pub made-long : length made ≡ entryLen s
-  made-long = made-length s m weight parent parent-length
+  made-long = made-length s (mutationOf b) (b .weight) parent parent-length
 
-  pub search-is : (threshold : Float) (es : List Keyed) (r : Search) → Searched s threshold (changedKeyed usualSalts (s .n) m (entryOf s parent)) es r → Searched s threshold (entryOf s made) es r
+  pub search-is : (threshold : Float) (es : List Keyed) (r : Search) → Searched s threshold (changedKeyed usualSalts (s .n) (mutationOf b) (entryOf s parent)) es r → Searched s threshold (branchIn s w b) es r
   search-is threshold es r f =
-      rw made-holds
-      (record {
-        found = f .found ∙ ap (λ (x : Walked). x .found) (sym (walk-blind s threshold weight _ 0 es));
-        tested = f .tested ∙ ap (λ (x : Walked). length (x .tested)) (sym (walk-blind s threshold weight _ 0 es));
-      })
+      record {
+        found = f .found ∙ ap (λ (x : Walked). x .found) (sym (walk-blind s threshold (b .weight) _ 0 es));
+        tested = f .tested ∙ ap (λ (x : Walked). length (x .tested)) (sym (walk-blind s threshold (b .weight) _ 0 es));
+      }
 
   -- ---- its key
 
-  module _ (keys firsts : List ℕ) (n : Noted count (seenAt s [] w) keys firsts) (change : Change) (d : change ≡ changeOf usualSalts (s .n) m (entryOf s parent .entry .body .rows)) where
-    pub key-is : bitXor (getD keys i 0) (change .delta) ≡ storedKey (changedKeyed usualSalts (s .n) m (entryOf s parent))
+  module _ (keys firsts : List ℕ) (n : Noted count (seenAt s [] w) keys firsts) (d : Changes s w b) where
+    pub key-is : bitXor (getD keys (b .parent) 0) (b .change .delta) ≡ storedKey (changedKeyed usualSalts (s .n) (mutationOf b) (entryOf s parent))
     unfolding storedKey changedKeyed changeOf
     key-is =
         let e = entryOf s parent in
-        ap₂ bitXor (n .kept i h) (ap (λ (c : Change). c .delta) d) ∙ xor-assoc (e .wordKey) (e .phaseKey) (masksOf usualSalts (s .n) m (e .entry .body .rows))
+        ap₂ bitXor (n .kept (b .parent) h) (ap (λ (c : Change). c .delta) (d .change)) ∙ xor-assoc (e .wordKey) (e .phaseLossKey) (masksOf usualSalts (s .n) (mutationOf b) (e .entry .body .rows))
 
-    pub key-made : bitXor (getD keys i 0) (change .delta) ≡ storedKey (branchOf s m weight parent)
+    pub key-made : bitXor (getD keys (b .parent) 0) (b .change .delta) ≡ storedKey (branchIn s w b)
     unfolding storedKey reweighed
     key-made = key-is
 
@@ -87,23 +87,23 @@ module _ (s : Size) (count : ℕ) (w : List ℕ) (g : Packed s count w) (m : Bra
 
   module _ (l : count < s .capacity) where
     abbrev all : List Keyed
-    all = listed s count w ++ branchOf s m weight parent ∷ []
+    all = listed s count w ++ branchIn s w b ∷ []
 
-    listed-are : listed s (count + 1) (appended s count m weight i w) ≡ all
+    listed-are : listed s (count + 1) (appended s count b w) ≡ all
     listed-are = more-listed s count w g l made made-long ∙ ap (λ (e : Keyed). listed s count w ++ e ∷ []) made-holds
 
-    at : (j : ℕ) → j < count + 1 → entryOf s (stretch s (appended s count m weight i w) j) ≡ getD all j (entryOf s [])
-    at j b = sym (listed-at s (count + 1) j (appended s count m weight i w) (entryOf s []) b) ∙ ap (λ (es : List Keyed). getD es j (entryOf s [])) listed-are
+    at : (j : ℕ) → j < count + 1 → entryOf s (stretch s (appended s count b w) j) ≡ getD all j (entryOf s [])
+    at j k = sym (listed-at s (count + 1) j (appended s count b w) (entryOf s []) k) ∙ ap (λ (es : List Keyed). getD es j (entryOf s [])) listed-are
 
-    pub appended-keys : SameKeys count (seenAt s [] w) (seenAt s [] (appended s count m weight i w))
-    appended-keys j b =
+    pub appended-keys : SameKeys count (seenAt s [] w) (seenAt s [] (appended s count b w))
+    appended-keys j k =
         ap storedKey
-        (at j (omega arith) ∙ List·getD-append (listed s count w) (branchOf s m weight parent ∷ []) (entryOf s []) j (omega (arith, length-listed s count w))
-        ∙ listed-at s count j w (entryOf s []) b)
+        (at j (omega arith) ∙ List·getD-append (listed s count w) (branchIn s w b ∷ []) (entryOf s []) j (omega (arith, length-listed s count w))
+        ∙ listed-at s count j w (entryOf s []) k)
 
-    pub appended-last : storedKey (branchOf s m weight parent) ≡ storedKey (entryOf s (stretch s (appended s count m weight i w) count))
+    pub appended-last : storedKey (branchIn s w b) ≡ storedKey (entryOf s (stretch s (appended s count b w) count))
     appended-last =
-        sym (ap storedKey (at count (omega arith) ∙ getD-at (listed s count w) (branchOf s m weight parent) [] (entryOf s []) count (length-listed s count w)))
+        sym (ap storedKey (at count (omega arith) ∙ getD-at (listed s count w) (branchIn s w b) [] (entryOf s []) count (length-listed s count w)))
 
 -- ---- a weight written leaves the keys
 

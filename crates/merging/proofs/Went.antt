@@ -14,16 +14,16 @@ use Rattle.model.specs.Store.{Tally, keyedWeighed, reweighed, merge, mergeAll, 
 use Rattle.model.specs.Calls.{engine}
 use Rattle.model.specs.declared.Size.{Size}
 use Rattle.model.proofs.Entries.{length-listed}
-use Rattle.model.proofs.Packed.{Packed}
+use Rattle.model.specs.Sound.{Packed}
 use Rattle.model.proofs.Merging.{merge-grows, mergeAll-grows, mergeAll-append, merge-front, tested-append, map-take}
-use Rattle.store.specs.Branch.{MergedBy, countBy, tallyBy}
-use Rattle.store.specs.declared.Fate.{Fate}
-use Rattle.store.specs.declared.Fate.the-variants.{Merged, Stored, Dropped, NoRoom}
-use Rattle.store.specs.declared.Settled.{Settled}
-use Rattle.store.proofs.Walk.{tested-few}
-use Rattle.store.proofs.Merge.{added, merge-adds}
+use Rattle.seeking.proofs.Walk.{tested-few}
+use Rattle.merging.specs.Fates.{MergedBy, countBy, tallyBy}
 use Rattle.merging.specs.Progress.{tallyOf, unweighed, Went, after}
+use Rattle.merging.specs.declared.Fate.{Fate}
+use Rattle.merging.specs.declared.Fate.the-variants.{Merged, Stored, Dropped, NoRoom}
+use Rattle.merging.specs.declared.Settled.{Settled}
 use Rattle.merging.specs.declared.Progress.{Progress}
+use Rattle.merging.proofs.Merge.{added, merge-adds}
 
 -- a weight that is set aside is not seen
 blind : (w : ℕ) (e : Keyed) → unweighed (reweighed keyedWeighed w e) ≡ unweighed e

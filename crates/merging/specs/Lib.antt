@@ -1,1 +1,2 @@
+pub mod Fates
 pub mod Progress

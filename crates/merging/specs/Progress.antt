@@ -1,22 +1,49 @@
 -- What merging some branches leaves. Assumes nothing.
 use Prim.Native.Nat.{ℕ, _+_, _*_, _≤_, _<_}
 use mathlib.Core.Path.{_≡_}
-use mathlib.Core.Bool.{true, false}
+use mathlib.Core.Bool.{Bool, true, false}
 use mathlib.Core.List.{List, map}
 use lib.Ieee.{Float}
 use lib.ListN.{length, take}
-use Rattle.model.specs.Entries.{Keyed, entryLen, wordsOf, stretch, listed}
+use Rattle.model.specs.Entries.{Keyed, entryLen, wordsOf, entryOf, stretch, listed, withStretch}
 use Rattle.model.specs.Keys.{usualSalts}
+use Rattle.model.specs.Qubits.{QubitsBelow}
 use Rattle.model.specs.Store.{Tally, keyedWeighed, reweighed, mergeAll, testedAll, howMany, aboveCutoff}
-use Rattle.model.specs.Calls.{engine}
+use Rattle.model.specs.Calls.{engine, headerWith, answerOf}
 use Rattle.model.specs.declared.BranchMutation.{BranchMutation}
+use Rattle.model.specs.declared.Answer.{Answer}
+use Rattle.model.specs.declared.Header.{Header}
 use Rattle.model.specs.declared.Size.{Size}
-use Rattle.model.proofs.Groups.{lent}
-use Rattle.model.proofs.Packed.{Packed}
-use Rattle.branch.proofs.Made.{branchOf}
-use Rattle.store.specs.declared.Fate.{Fate}
-use Rattle.store.specs.declared.Fate.the-variants.{Merged, Stored, Dropped, NoRoom}
+use Rattle.model.specs.Sound.{Packed}
+use Rattle.changes.specs.Changes.{changeOf}
+use Rattle.branch.specs.Made.{madeBranch}
+use Rattle.arms.specs.Arms.{mutationAt}
+use Rattle.merging.specs.declared.Branch.{Branch}
+use Rattle.merging.specs.declared.Fate.{Fate}
+use Rattle.merging.specs.declared.Fate.the-variants.{Merged, Stored, Dropped, NoRoom}
 use Rattle.merging.specs.declared.Progress.{Progress}
+
+-- ---- a branch that is not made yet
+
+-- what it changes of its parent
+abbrev pub mutationOf : Branch → BranchMutation
+mutationOf b = mutationAt (b .shape) (b .arm)
+
+-- the branch of an entry of the store w
+abbrev pub branchIn : Size → (w : List ℕ) → Branch → Keyed
+branchIn s w b = madeBranch s (mutationOf b) (b .weight) (stretch s w (b .parent))
+
+-- its arm is one of 15, its qubits are numbers of bits in a word, and its change is its mutation's
+pub record Changes (s : Size) (w : List ℕ) (b : Branch) : Type 0 where
+  pub few : b .arm < 15
+  pub below : QubitsBelow 64 (mutationOf b)
+  pub change : b .change ≡ changeOf usualSalts (s .n) (mutationOf b) (entryOf s (stretch s w (b .parent)) .entry .body .rows)
+
+-- the store with the branch made in its first free slot
+abbrev pub appended : Size → (count : ℕ) → Branch → List ℕ → List ℕ
+appended s count b w = withStretch (entryLen s) count w (wordsOf (branchIn s w b))
+
+-- ---- branches merged, one after the other
 
 -- the list so far, and what became of the branches
 abbrev pub tallyOf : Size → Progress → List ℕ → Tally Keyed
@@ -46,6 +73,11 @@ pub record Went (s : Size) (threshold cutoff : Float) (bs : List Keyed) (p : Pro
   pub few : p' .merged + p' .stored + p' .dropped ≤ p .merged + p .stored + p .dropped + length bs
   pub tested : p' .compared ≤ p .compared + 256 * length bs
 
+-- so many branches more of each fate: one that is stored is listed
+abbrev pub withMore : Progress → (merged stored dropped compared : ℕ) → (full : Bool) → Progress
+withMore p m s d k f =
+    record { count = p .count + s; merged = p .merged + m; stored = p .stored + s; dropped = p .dropped + d; compared = p .compared + k; full = f }
+
 -- one branch more, which had this fate after k full comparisons
 unfoldable pub after : Fate → Progress → ℕ → Progress
 after Merged p k = record { count = p .count; merged = p .merged + 1; stored = p .stored; dropped = p .dropped; compared = p .compared + k; full = p .full }
@@ -57,6 +89,7 @@ after NoRoom p k = record { count = p .count; merged = p .merged; stored = p .st
 abbrev pub started : ℕ → Progress
 started count = record { count = count; merged = 0; stored = 0; dropped = 0; compared = 0; full = false }
 
--- the store with the branch of the entry at place i made in its first free slot
-abbrev pub appended : Size → (count : ℕ) → BranchMutation → (weight i : ℕ) → List ℕ → List ℕ
-appended s count m weight i w = lent (entryLen s) count w (wordsOf (branchOf s m weight (stretch s w i)))
+-- what a call answers that lists `count` entries, once its branches became what p counts
+abbrev pub answered : Header → (count : ℕ) → Progress → Answer
+answered h count p =
+    answerOf 0 (headerWith h count false) (record { merged = p .merged; stored = p .stored; dropped = p .dropped; compared = p .compared }) 0 0

@@ -1,85 +1,87 @@
-// What is said of a walk that ended before the circuit's end: where, which word is at fault, what was expected, and what to do.
+// What is said of a pass that ended before the circuit's end: where, which word is at fault, what was expected, and what to do.
 mod refused;
 mod stim;
 
 use circuit::Fault;
+use passes::Outcome;
+use passes::Pass;
 pub use refused::tell_number;
 pub use refused::tell_run;
-use walk::Outcome;
-use walk::Walk;
 
 pub fn tell_place(name: &[u8], line: u64) {
-    rows::say(name);
-    rows::say(b":");
-    rows::say_number(line);
-    rows::say(b": ");
+    printing::say(name);
+    printing::say(b":");
+    printing::say_number(line);
+    printing::say(b": ");
 }
 
 // The word, or where there is none.
 fn tell_word(line: &[u8], from: usize, to: usize) {
     if from < to {
-        rows::say_word(line, from, to);
+        printing::say_word(line, from, to);
     } else {
-        rows::say(b"at the end of the line");
+        printing::say(b"at the end of the line");
     }
-    rows::say(b": ");
+    printing::say(b": ");
 }
 
 // ---- bad lines
 
 fn tell_arguments(count: usize) {
     if count == 0 {
-        rows::say(b"this instruction has no arguments");
+        printing::say(b"this instruction has no arguments");
         return;
     }
     if count == 1 {
-        rows::say(b"one argument was expected, in round brackets after the name");
+        printing::say(b"one argument was expected, in round brackets after the name");
         return;
     }
-    rows::say_number(count as u64);
-    rows::say(b" arguments were expected, in round brackets after the name");
+    printing::say_number(count as u64);
+    printing::say(b" arguments were expected, in round brackets after the name");
 }
 
 fn tell_outside(limit: usize) {
-    rows::say(b"a qubit below ");
-    rows::say_number(limit as u64);
-    rows::say(b" was expected (--qubits ");
-    rows::say_number(limit as u64);
-    rows::say(b")");
+    printing::say(b"a qubit below ");
+    printing::say_number(limit as u64);
+    printing::say(b" was expected (--qubits ");
+    printing::say_number(limit as u64);
+    printing::say(b")");
 }
 
 // What was expected.
 fn tell_fault(fault: Fault) {
     match fault {
         Fault::Name => stim::say_instructions(),
-        Fault::Tag => rows::say(b"the tag has no `]` on its line"),
-        Fault::LossTag => rows::say(
+        Fault::Tag => printing::say(b"the tag has no `]` on its line"),
+        Fault::LossTag => printing::say(
             b"I_ERROR is taken with the tag loss only, as I_ERROR[loss](p)",
         ),
-        Fault::ResetTag => rows::say(b"I is taken with the tag reset_loss only, as I[reset_loss]"),
-        Fault::Number => rows::say(b"a decimal number was expected"),
-        Fault::Digits => rows::say(
+        Fault::ResetTag => printing::say(
+            b"I is taken with the tag reset_loss only, as I[reset_loss]",
+        ),
+        Fault::Number => printing::say(b"a decimal number was expected"),
+        Fault::Digits => printing::say(
             b"at most 19 significant digits are taken, so that the rate is rounded once",
         ),
-        Fault::Infinite => rows::say(b"a number below 1.8e308 was expected"),
-        Fault::Bracket => rows::say(b"`,` or `)` was expected after the number"),
+        Fault::Infinite => printing::say(b"a number below 1.8e308 was expected"),
+        Fault::Bracket => printing::say(b"`,` or `)` was expected after the number"),
         Fault::Arguments(count) => tell_arguments(count),
-        Fault::Blank => rows::say(b"a blank was expected before this"),
-        Fault::Targets => rows::say(b"TICK has no targets"),
-        Fault::Qubit => rows::say(b"a qubit was expected, a whole number"),
-        Fault::Range => rows::say(b"the engine has at most 64 qubits, 0 to 63"),
+        Fault::Blank => printing::say(b"a blank was expected before this"),
+        Fault::Targets => printing::say(b"TICK has no targets"),
+        Fault::Qubit => printing::say(b"a qubit was expected, a whole number"),
+        Fault::Range => printing::say(b"the engine has at most 64 qubits, 0 to 63"),
         Fault::Outside(limit) => tell_outside(limit),
-        Fault::Half => rows::say(b"the targets come in pairs, and this one has no second"),
-        Fault::Same => rows::say(b"the two qubits of a pair must differ"),
-        Fault::Repeats => rows::say(
+        Fault::Half => printing::say(b"the targets come in pairs, and this one has no second"),
+        Fault::Same => printing::say(b"the two qubits of a pair must differ"),
+        Fault::Repeats => printing::say(
             b"REPEAT is followed by how often: a whole number from 1 to 18446744073709551615",
         ),
-        Fault::Open => rows::say(b"`{` was expected, at the end of its line"),
-        Fault::After => rows::say(b"nothing but a comment may follow `{` or `}` on its line"),
+        Fault::Open => printing::say(b"`{` was expected, at the end of its line"),
+        Fault::After => printing::say(b"nothing but a comment may follow `{` or `}` on its line"),
     }
 }
 
-// ---- how a walk ended
+// ---- how a pass ended
 
 // A word that is no instruction: another one of Stim's is known by its name.
 fn tell_bad(line: &[u8], fault: Fault, from: usize, to: usize) {
@@ -91,55 +93,57 @@ fn tell_bad(line: &[u8], fault: Fault, from: usize, to: usize) {
     tell_fault(fault)
 }
 
-fn tell_outcome(line: &[u8], w: Walk) {
-    let outcome = w.outcome;
+fn tell_outcome(line: &[u8], pass: Pass) {
+    let outcome = pass.outcome;
     match outcome {
-        Outcome::Bad(fault) => tell_bad(line, fault, w.from, w.to),
+        Outcome::Bad(fault) => tell_bad(line, fault, pass.from, pass.to),
         Outcome::Rates => {
-            tell_word(line, w.from, w.to);
-            rows::say(b"a rate is from 0 to 1, and the rates of an instruction add up to 1 at most")
+            tell_word(line, pass.from, pass.to);
+            printing::say(
+                b"a rate is from 0 to 1, and the rates of an instruction add up to 1 at most",
+            )
         }
-        Outcome::TooLong => rows::say(b"the line has more than 65535 bytes"),
+        Outcome::TooLong => printing::say(b"the line has more than 65535 bytes"),
         Outcome::TooDeep => {
-            tell_word(line, w.from, w.to);
-            rows::say(b"blocks are nested 64 deep at most, and this is the 65th or a later one")
+            tell_word(line, pass.from, pass.to);
+            printing::say(b"blocks are nested 64 deep at most, and this is the 65th or a later one")
         }
         Outcome::NoRepeat => {
-            tell_word(line, w.from, w.to);
-            rows::say(b"no REPEAT is open here")
+            tell_word(line, pass.from, pass.to);
+            printing::say(b"no REPEAT is open here")
         }
-        _ => rows::say(b"the run ended"),
+        _ => printing::say(b"the run ended"),
     }
-    rows::say(b"\n");
+    printing::say(b"\n");
 }
 
-// The line that a walk ended at, from the window.
-fn tell_line(name: &[u8], bytes: &[u8], w: Walk) {
-    let window = w.window;
+// The line that a pass ended at, from the window.
+fn tell_line(name: &[u8], bytes: &[u8], pass: Pass) {
+    let window = pass.window;
     let from = window.from;
     let to = window.to;
-    tell_place(name, w.line);
+    tell_place(name, pass.line);
     if from <= to {
         if to <= bytes.len() {
-            tell_outcome(&bytes[from..to], w);
+            tell_outcome(&bytes[from..to], pass);
         }
     }
 }
 
-// Why a walk did not come to the circuit's end.
-pub fn tell(name: &[u8], bytes: &[u8], w: Walk) {
-    let outcome = w.outcome;
+// Why a pass did not come to the circuit's end.
+pub fn tell(name: &[u8], bytes: &[u8], pass: Pass) {
+    let outcome = pass.outcome;
     match outcome {
         Outcome::Failed => os::fail(name),
         Outcome::Cut => {
-            rows::say(name);
-            rows::say(b": the circuit's copy was cut while it was read\n")
+            printing::say(name);
+            printing::say(b": the circuit's copy was cut while it was read\n")
         }
         Outcome::Unwritten => os::fail(b"run_circuit: standard output"),
         Outcome::Unclosed(line) => {
             tell_place(name, line);
-            rows::say(b"`REPEAT`: this block has no `}`\n")
+            printing::say(b"`REPEAT`: this block has no `}`\n")
         }
-        _ => tell_line(name, bytes, w),
+        _ => tell_line(name, bytes, pass),
     }
 }

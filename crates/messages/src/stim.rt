@@ -1,6 +1,6 @@
 // Instructions of Stim that the engine does not have: what is said of each, and what stands in for it.
 pub fn say_instructions() {
-    rows::say(
+    printing::say(
         b"an instruction was expected (H S CX CNOT X_ERROR Y_ERROR Z_ERROR PAULI_CHANNEL_1 PAULI_CHANNEL_2 \
 DEPOLARIZE1 DEPOLARIZE2 I_ERROR[loss] I[reset_loss] TICK REPEAT)",
     );
@@ -28,7 +28,7 @@ fn say_by_line(line: &[u8], word: &[u8]) -> bool {
     if colon < line.len() {
         if is_among(word, &line[0..colon]) {
             let text = colon + 1;
-            rows::say(&line[text..]);
+            printing::say(&line[text..]);
             return true;
         }
     }

@@ -11,14 +11,15 @@ use lib.ListN.{length, take, drop, set, replicate, length-drop, length-append, l
 use lib.Seq.{drop-drop, drop-set-lt, set-at, take-at, drop-at, length-take-le}
 use borrow.Author.Tests.{eqb-true}
 use Rattle.model.specs.Lists.{groups, joined, every}
-use Rattle.model.specs.Entries.{Keyed, headLen, coefsLen, rowsLen, entryLen, wordsOf, entryOf, stretch, listed, pastCount, pack}
+use Rattle.model.specs.Entries.{Keyed, headLen, coefsLen, rowsLen, entryLen, wordsOf, entryOf, stretch, listed, pastCount, pack, withStretch}
 use Rattle.model.specs.Numbers.{firstOf, allZero}
-use Rattle.model.specs.Calls.{Lent, shape, padded}
+use Rattle.model.specs.Calls.{Lent, shape, zerosPast}
+use Rattle.model.specs.Sound.{Packed}
 use Rattle.model.specs.declared.Size.{Size}
 use Rattle.model.proofs.Lists.{and-both, length-groups, group-at}
-use Rattle.model.proofs.Groups.{stride-lt, groups-set, groups-add, words-are, lent, lent-groups, lent-length, lent-rest}
+use Rattle.model.proofs.Groups.{stride-lt, groups-set, groups-add, words-are, lent-groups, lent-length, lent-rest}
 use Rattle.model.proofs.Entries.{length-listed}
-use Rattle.model.proofs.Shape.{Sized, shaped}
+use Rattle.model.proofs.Shape.{shaped}
 
 -- ---- an entry's words and back
 
@@ -44,8 +45,8 @@ unfolding wordsOf entryOf
 entry-words s e f =
     let cs = e .entry .body .coefs in
     let rs = e .entry .body .rows in
-    let w : List ℕ = e .entry .weight ∷ e .entry .body .loss ∷ e .wordKey ∷ e .phaseKey ∷ e .entry .body .count ∷ (cs ++ rs) in
-    ap₂ (λ (a b : List ℕ). record { entry = record { weight = e .entry .weight; body = record { loss = e .entry .body .loss; count = e .entry .body .count; coefs = a; rows = b } }; wordKey = e .wordKey; phaseKey = e .phaseKey })
+    let w : List ℕ = e .entry .weight ∷ e .entry .body .loss ∷ e .wordKey ∷ e .phaseLossKey ∷ e .entry .body .count ∷ (cs ++ rs) in
+    ap₂ (λ (a b : List ℕ). record { entry = record { weight = e .entry .weight; body = record { loss = e .entry .body .loss; count = e .entry .body .count; coefs = a; rows = b } }; wordKey = e .wordKey; phaseLossKey = e .phaseLossKey })
     (take-at cs rs (coefsLen s) (f .coefs))
     (sym (drop-drop (coefsLen s) headLen w) ∙ drop-at cs rs (coefsLen s) (f .coefs))
 
@@ -55,13 +56,8 @@ words-length s e f = omega (arith, length-append (e .entry .body .coefs) (e .ent
 
 -- ---- the store
 
-pub record Packed (s : Size) (count : ℕ) (w : List ℕ) : Type 0 where
-  pub sized : Sized s (length w)
-  pub room : count ≤ s .capacity
-  pub zeros : allZero (pastCount s count w) ≡ true
-
 -- what numbers 1, 2 and 5 leave
-pub packed : (x : Lent) → firstOf (shape x) ≡ 0 → padded x ≡ true → Packed (x .header .size) (x .header .count) (x .words)
+pub packed : (x : Lent) → firstOf (shape x) ≡ 0 → zerosPast x ≡ true → Packed (x .header .size) (x .header .count) (x .words)
 packed x p q = let h = shaped x p in record { sized = h .size; room = h .count; zeros = q }
 
 sub-mul : (a b c : ℕ) → (a - b) * c ≡ a * c - b * c
@@ -123,11 +119,11 @@ module _ (s : Size) (count : ℕ) (w : List ℕ) (h : Packed s count w) where
     set-packed j v g = keeps _ (length-set w (i * entryLen s + j) v) (drop-set-lt (count * entryLen s) w (i * entryLen s + j) v (stride-lt (entryLen s) i count j b g))
 
     -- its stretch is lent, and comes back as x
-    pub lent-listed : (x : List ℕ) → length x ≡ entryLen s → listed s count (lent (entryLen s) i w x) ≡ set (listed s count w) i (entryOf s x)
+    pub lent-listed : (x : List ℕ) → length x ≡ entryLen s → listed s count (withStretch (entryLen s) i w x) ≡ set (listed s count w) i (entryOf s x)
     unfolding listed
     lent-listed x g = ap (map (entryOf s)) (lent-groups (entryLen s) count i w x within b g) ∙ map-set (entryOf s) (groups (entryLen s) count w) i x
 
-    pub lent-packed : (x : List ℕ) → length x ≡ entryLen s → Packed s count (lent (entryLen s) i w x)
+    pub lent-packed : (x : List ℕ) → length x ≡ entryLen s → Packed s count (withStretch (entryLen s) i w x)
     lent-packed x g = keeps _ (lent-length (entryLen s) count i w x within b g) (lent-rest (entryLen s) count i w x within b g)
 
   -- ---- one more entry
@@ -139,7 +135,7 @@ module _ (s : Size) (count : ℕ) (w : List ℕ) (h : Packed s count w) where
     last-set : (l : List (List ℕ)) (y z : List ℕ) (n : ℕ) → length l ≡ n → set (l ++ y ∷ []) n z ≡ l ++ z ∷ []
     last-set l y z n e = set-at l y [] z n e
 
-    pub more-listed : listed s (count + 1) (lent (entryLen s) count w x) ≡ listed s count w ++ entryOf s x ∷ []
+    pub more-listed : listed s (count + 1) (withStretch (entryLen s) count w x) ≡ listed s count w ++ entryOf s x ∷ []
     unfolding listed groups
     more-listed =
         let len = entryLen s in
@@ -155,7 +151,7 @@ module _ (s : Size) (count : ℕ) (w : List ℕ) (h : Packed s count w) where
     zeros-drop (suc n) [] e = e
     zeros-drop (suc n) (y ∷ l) e = zeros-drop n l (and-both (eqb y 0) (every (λ z. eqb z 0) l) e .1)
 
-    pub more-packed : Packed s (count + 1) (lent (entryLen s) count w x)
+    pub more-packed : Packed s (count + 1) (withStretch (entryLen s) count w x)
     unfolding pastCount
     more-packed =
         let len = entryLen s in

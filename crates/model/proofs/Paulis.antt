@@ -7,7 +7,7 @@ use native.Mathlib.Nat.{mul-comm}
 use native.Mathlib.Omega.{arith}
 use lib.Bits.{bitXor, xor-comm, xor-lt, xor-zero-r}
 use Rattle.model.specs.Entries.{Row}
-use Rattle.model.specs.Keys.{bit, pick}
+use Rattle.model.specs.Keys.{bit, ifSet}
 use Rattle.model.specs.Changes.{flips, flipsBy, flippedRow}
 use Rattle.model.specs.Gates.{xorBit, xorSign, turnedRow}
 use Rattle.model.specs.declared.BranchMutation.the-variants.{Pauli as pauli}
@@ -15,7 +15,7 @@ use Rattle.model.specs.declared.Gate.{Gate}
 use Rattle.model.specs.declared.Gate.the-variants.{H, S}
 use Rattle.model.specs.declared.Pauli.the-variants.{X, Y, Z}
 use Rattle.model.proofs.Xor.{xor-assoc, xor-cancel, xor-cancel-left}
-use Rattle.model.proofs.Picks.{bit-lt, bit-xor, bit-picked, pick-bits, product-lt}
+use Rattle.model.proofs.IfSet.{bit-lt, bit-xor, bit-picked, ifSet-bits, product-lt}
 use Rattle.model.proofs.Rows.{same-row}
 
 -- a row turned by gates, one after the other
@@ -28,15 +28,15 @@ turnedBy (g ∷ gs) r = turnedBy gs (turnedRow g r)
 module _ (w q b : ℕ) where
   -- bit q is XORed with b
   pub bit-flipped : b < 2 → bit q (xorBit w q b) ≡ bitXor (bit q w) b
-  bit-flipped h = bit-xor q w (pick b (2 ^ q)) ∙ ap (bitXor (bit q w)) (bit-picked q b h)
+  bit-flipped h = bit-xor q w (ifSet b (2 ^ q)) ∙ ap (bitXor (bit q w)) (bit-picked q b h)
 
   -- twice with the same bit is not at all
   pub undone : (c : ℕ) → c ≡ b → xorBit (xorBit w q b) q c ≡ w
-  undone c e = ap (xorBit (xorBit w q b) q) e ∙ xor-cancel w (pick b (2 ^ q))
+  undone c e = ap (xorBit (xorBit w q b) q) e ∙ xor-cancel w (ifSet b (2 ^ q))
 
   -- with two bits is with their XOR
   joined-bits : (c : ℕ) → b < 2 → c < 2 → xorBit (xorBit w q b) q c ≡ xorBit w q (bitXor b c)
-  joined-bits c h k = xor-assoc w (pick b (2 ^ q)) (pick c (2 ^ q)) ∙ ap (bitXor w) (sym (pick-bits b c (2 ^ q) h k))
+  joined-bits c h k = xor-assoc w (ifSet b (2 ^ q)) (ifSet c (2 ^ q)) ∙ ap (bitXor w) (sym (ifSet-bits b c (2 ^ q) h k))
 
 -- of two XORs, either may come first
 xor-last : (a b c : ℕ) → bitXor (bitXor a b) c ≡ bitXor (bitXor a c) b
@@ -114,8 +114,8 @@ module _ (q : ℕ) (r : Row) where
   unfolding turnedBy turnedRow flippedRow flipsBy flips
   x-is =
       ap (turnedRow (H q)) (z-is q (turnedRow (H q) r))
-      ∙ ap (λ (b : ℕ). turnedRow (H q) (after-h (pick b 2))) h-x
-      ∙ h-again (pick z 2)
+      ∙ ap (λ (b : ℕ). turnedRow (H q) (after-h (ifSet b 2))) h-x
+      ∙ h-again (ifSet z 2)
 
   -- ---- Y
 
@@ -124,7 +124,7 @@ module _ (q : ℕ) (r : Row) where
   unfolding flippedRow flipsBy flips
   y-flips =
       same-row refl refl
-      (xor-assoc (r .phase) (pick x 2) (pick z 2) ∙ ap (bitXor (r .phase)) (sym (pick-bits x z 2 (bit-lt q (r .x)) (bit-lt q (r .z)))))
+      (xor-assoc (r .phase) (ifSet x 2) (ifSet z 2) ∙ ap (bitXor (r .phase)) (sym (ifSet-bits x z 2 (bit-lt q (r .x)) (bit-lt q (r .z)))))
 
 -- S, S and then H, S, S, H is Y
 pub y-is : (q : ℕ) (r : Row) → turnedBy (S q ∷ S q ∷ H q ∷ S q ∷ S q ∷ H q ∷ []) r ≡ flippedRow (pauli Y q) r

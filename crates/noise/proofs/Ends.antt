@@ -13,8 +13,8 @@ use Rattle.model.specs.Store.{keyedWeighed}
 use Rattle.model.specs.Sum.{done, refused, andThen, normalised, truncated, finished}
 use Rattle.model.specs.declared.Size.{Size}
 use Rattle.model.proofs.Entries.{length-listed}
-use Rattle.model.proofs.Packed.{Packed}
-use Rattle.weights.specs.Holds.{Normalised, Truncated}
+use Rattle.model.specs.Sound.{Packed}
+use Rattle.weights.specs.Outcomes.{Normalised, Truncated}
 use Rattle.rebuild.specs.Saved.{withWeights, withKeyWords}
 use Rattle.noise.specs.Finish.{Renormalised, Finished, ending, putBack}
 use Rattle.merging.specs.declared.Progress.{Progress}

@@ -1,35 +1,36 @@
 -- What `run` leaves is what the definition of a channel leaves. Assumes nothing.
 use mathlib.Core.Path.{_≡_, refl, sym, ap, ap₂, subst, _∙_}
 use mathlib.Core.Bool.{Bool, true, false}
-use mathlib.Core.List.{List, [], map}
-use Prim.Native.Nat.{ℕ, zero, suc, _≤_, _<_}
+use mathlib.Core.List.{List, map}
+use Prim.Native.Nat.{ℕ, zero, suc, _≤_}
 use native.Mathlib.Omega.{arith}
 use lib.Ieee.{Float}
-use lib.ListN.{length, take, getD, length-map}
+use lib.ListN.{length, take, length-map}
 use Rattle.model.specs.Lists.{joined}
 use Rattle.model.specs.Floats.{float, oneBits, zeroBits, minus}
-use Rattle.model.specs.Entries.{Keyed, entryOf, stretch, listed, strip}
+use Rattle.model.specs.Entries.{Keyed, listed, strip}
 use Rattle.model.specs.Keys.{keyed, usualSalts}
 use Rattle.model.specs.Store.{Tally, begun, keyedWeighed, weightOf, mergeAll, mergedSplit, testedAll, howMany, aboveCutoff}
 use Rattle.model.specs.Sum.{Result, refused, mapResult, finished}
 use Rattle.model.specs.Channels as Channels
 use Rattle.model.specs.Channels.{Noise, totalRate, foldedTo, scaled, branchesOf, noiseSplit, noiseTally, withEntries, channelled}
-use Rattle.model.specs.Calls.{noise, branching, Lent, sumOf, rebuilt, rebuiltEntries, engine, act, left, gave, changedTo, accepted, plainAnswer, headerWith, kindOf, dirtyAfter, wordsAfter, splitBy, testedBy}
+use Rattle.model.specs.Calls.{noise, Lent, rebuilt, rebuiltEntries, worked, acted, engine, act, left, gave, changedTo, accepted, plainAnswer, headerWith, kindOf, dirtyAfter, wordsAfter, splitAs, splitIn, splitBy, testedBy}
 use Rattle.model.specs.declared.Size.{Size}
 use Rattle.model.specs.declared.Header.{Header}
-use Rattle.model.proofs.Lists.{getD-mapped}
-use Rattle.model.proofs.Entries.{length-listed, listed-at}
-use Rattle.model.proofs.Packed.{Packed, packed-is}
+use Rattle.model.proofs.Entries.{length-listed}
+use Rattle.model.specs.Sound.{Packed, FewCoefficients}
+use Rattle.model.proofs.Packed.{packed-is}
+use Rattle.model.proofs.Sound.{rebuilt-few}
 use Rattle.model.proofs.Merging.{no-room}
 use Rattle.arms.specs.declared.Arms.{Arms}
 use Rattle.rebuild.specs.Saved.{withWeights, withKeyWords}
 use Rattle.rebuild.proofs.Restored as Restored
-use Rattle.rebuild.proofs.Slots.{same-store}
+use Rattle.entries.proofs.Emptied.{same-store}
 use Rattle.merging.specs.Progress.{tallyOf, unweighed}
-use Rattle.spread.specs.Branches.{scaledBy, branchesBy, FewCoefficients}
+use Rattle.spread.specs.Branches.{scaledBy, branchesBy}
 use Rattle.arms.specs.Arms.{Stands}
 use Rattle.spread.specs.Spread.{keepBy, splitFor, merging, Spread}
-use Rattle.noise.specs.Finish.{Finished, ending, readied, Readied, ranBy, putBack}
+use Rattle.noise.specs.Finish.{Finished, ending, readied, Readied, putBack}
 use Rattle.noise.specs.declared.Ending.{Ending}
 use Rattle.merging.specs.declared.Progress.{Progress}
 use Rattle.spread.proofs.Split.{map-is, scaled-is, branches-of}
@@ -40,10 +41,6 @@ readied-long : (s : Size) (dirty : Bool) (es : List Keyed) → length (readied s
 unfolding rebuiltEntries
 readied-long s true es = length-map es (λ e. keyed usualSalts (s .n) (strip e))
 readied-long s false es = refl
-
-same-bodies : (n : ℕ) (e : Keyed) → keyed usualSalts n (strip e) .entry .body .count ≡ e .entry .body .count
-unfolding keyed
-same-bodies n e = refl
 
 -- ---- the branches and the scaled entries are those of the definition
 
@@ -84,8 +81,8 @@ module _ (x : Lent) (r : Arms) (c : Noise) (h : Stands r c) (p : Progress) (w₃
       same-tally = sym (t .tally o ∙ tally-is (hd .size) (hd .threshold) (hd .cutoff) r c h ds)
 
       pub ends-as : (n : ℕ) (es : List Keyed) → finished keyedWeighed (hd .size .capacity) (hd .cutoff) (p .dropped) (listed (hd .size) (p .count) w₃) ≡ ending n es
-          → act engine (noise c) (rebuilt branching (hd .dirty) (sumOf x)) ≡ mapResult changedTo (mapResult (withEntries (engine (hd .size) (hd .threshold)) (tallyOf (hd .size) p w₃)) (ending n es))
-      unfolding act channelled rebuilt
+          → act engine (noise c) (worked (noise c) x) ≡ mapResult changedTo (mapResult (withEntries (engine (hd .size) (hd .threshold)) (tallyOf (hd .size) p w₃)) (ending n es))
+      unfolding act channelled rebuilt kindOf
       ends-as n es e =
           ap (λ (u : Tally Keyed). mapResult changedTo (mapResult (withEntries (engine (hd .size) (hd .threshold)) u) (finished keyedWeighed (hd .size .capacity) (hd .cutoff) (u .dropped) (u .entries)))) same-tally
           ∙ ap (λ (f : Result (List Keyed)). mapResult changedTo (mapResult (withEntries (engine (hd .size) (hd .threshold)) (tallyOf (hd .size) p w₃)) f)) e
@@ -104,37 +101,37 @@ module _ (x : Lent) (r : Arms) (c : Noise) (h : Stands r c) (p : Progress) (w₃
           go true e = absurd (omega (arith, f .full e, z))
 
       pub ran-0 : n ≡ 0
-          → gave (accepted (headerWith hd count false) (p .compared) (changedTo (tallyOf (hd .size) (record { count = count; merged = p .merged; stored = p .stored; dropped = p .dropped; compared = p .compared; full = p .full }) w₄))) w₄ ≡ ranBy c x
-      unfolding left mapResult ending kindOf dirtyAfter wordsAfter testedBy splitBy accepted rebuilt
+          → gave (accepted (headerWith hd count false) (p .compared) (changedTo (tallyOf (hd .size) (record { count = count; merged = p .merged; stored = p .stored; dropped = p .dropped; compared = p .compared; full = p .full }) w₄))) w₄ ≡ acted (noise c) x
+      unfolding left mapResult ending kindOf dirtyAfter wordsAfter testedBy splitBy splitAs splitIn accepted rebuilt
       ran-0 z =
           let o = has-room z in
           let e = f .result o ∙ ap (λ (k : ℕ). ending k after) z in
           sym
-          (ap (left (noise c) x (rebuilt branching (hd .dirty) (sumOf x))) (ends-as o 0 after e)
+          (ap (left (noise c) x (worked (noise c) x)) (ends-as o 0 after e)
           ∙ rw (length-listed (hd .size) count w₄, ← packed-is (hd .size) count w₄ (f .packed), sym (t .compared o ∙ tested-is (hd .size) (hd .threshold) (hd .cutoff) r c h ds)))
 
       -- ---- refused
 
-      overfull : p .full ≡ true → act engine (noise c) (rebuilt branching (hd .dirty) (sumOf x)) ≡ refused 6
-      unfolding act channelled rebuilt mapResult
+      overfull : p .full ≡ true → act engine (noise c) (worked (noise c) x) ≡ refused 6
+      unfolding act channelled rebuilt kindOf mapResult
       overfull e =
           let u = noiseTally (engine (hd .size) (hd .threshold)) (hd .cutoff) c ds in
           ap (λ (g : Result (List Keyed)). mapResult changedTo (mapResult (withEntries (engine (hd .size) (hd .threshold)) u) g))
           (no-room keyedWeighed (hd .size .capacity) (hd .cutoff) (u .dropped) (u .entries)
           (omega (arith, t .overflow e, ap (λ (v : Tally Keyed). length (v .entries)) (tally-is (hd .size) (hd .threshold) (hd .cutoff) r c h ds))))
 
-      refused-as : (k : ℕ) → n ≡ suc k → (b : Bool) → p .full ≡ b → act engine (noise c) (rebuilt branching (hd .dirty) (sumOf x)) ≡ refused n
+      refused-as : (k : ℕ) → n ≡ suc k → (b : Bool) → p .full ≡ b → act engine (noise c) (worked (noise c) x) ≡ refused n
       unfolding ending mapResult
       refused-as k z true e = overfull e ∙ ap refused (sym (f .full e))
       refused-as k z false e = ends-as e (suc k) after (f .result e ∙ ap (λ (m : ℕ). ending m after) z) ∙ ap refused (sym z)
 
-      pub ran-refused : (n ≡ 0 → ⊥) → gave (plainAnswer hd n) (x .words) ≡ ranBy c x
+      pub ran-refused : (n ≡ 0 → ⊥) → gave (plainAnswer hd n) (x .words) ≡ acted (noise c) x
       unfolding left
       ran-refused z = go n refl
         where
-          go : (m : ℕ) → n ≡ m → gave (plainAnswer hd n) (x .words) ≡ ranBy c x
+          go : (m : ℕ) → n ≡ m → gave (plainAnswer hd n) (x .words) ≡ acted (noise c) x
           go zero e = absurd (z e)
-          go (suc k) e = sym (ap (left (noise c) x (rebuilt branching (hd .dirty) (sumOf x))) (refused-as k e (p .full) refl))
+          go (suc k) e = sym (ap (left (noise c) x (worked (noise c) x)) (refused-as k e (p .full) refl))
 
 -- ---- undone
 
@@ -162,22 +159,8 @@ module _ (s : Size) (count : ℕ) (dirty : Bool) (w words phases w₁ : List ℕ
       → listed s count v ≡ putBack dirty (take count saved) (take count words) (take count phases) fs → v ≡ w
   undone saved fs v e u g k l = same-store s count v w k g (l ∙ keys-back dirty refl saved fs (weights-back saved fs e u))
 
-  -- rebuilding leaves the coefficients
-  readied-at : (b : Bool) → dirty ≡ b → (i : ℕ) → i < count → entryOf s (stretch s w₁ i) .entry .body .count ≡ entryOf s (stretch s w i) .entry .body .count
-  unfolding rebuiltEntries
-  readied-at true d i k =
-      let z = entryOf s [] in
-      ap (λ (e : Keyed). e .entry .body .count)
-      (sym (listed-at s count i w₁ z k) ∙ ap (λ (l : List Keyed). getD l i z) (y .entries ∙ ap (λ (b : Bool). readied s b (listed s count w)) d) ∙ getD-mapped (λ e. keyed usualSalts (s .n) (strip e)) (listed s count w) i z z (omega (arith, length-listed s count w, k)))
-      ∙ same-bodies (s .n) (getD (listed s count w) i z)
-      ∙ ap (λ (e : Keyed). e .entry .body .count) (listed-at s count i w z k)
-  readied-at false d i k =
-      let z = entryOf s [] in
-      ap (λ (e : Keyed). e .entry .body .count)
-      (sym (listed-at s count i w₁ z k) ∙ ap (λ (l : List Keyed). getD l i z) (y .entries ∙ ap (λ (b : Bool). readied s b (listed s count w)) d) ∙ listed-at s count i w z k)
-
   pub ready-few : FewCoefficients s count w → FewCoefficients s count w₁
-  ready-few f i k = omega (arith, f i k, readied-at dirty refl i k)
+  ready-few f = rebuilt-few s count w w₁ dirty (y .entries) f
 
   pub ready-count : length first ≡ count
   ready-count = readied-long s dirty (listed s count w) ∙ length-listed s count w

@@ -8,11 +8,10 @@ use lib.Ieee.{Float}
 use lib.ListN.{length, take}
 use Rattle.model.specs.Entries.{Keyed, listed}
 use Rattle.model.specs.Store.{keyedWeighed}
-use Rattle.model.specs.Channels.{Noise}
-use Rattle.model.specs.Calls.{noise, branching, Lent, Left, engine, sumOf, rebuilt, rebuiltEntries, act, left}
+use Rattle.model.specs.Calls.{rebuiltEntries}
 use Rattle.model.specs.Sum.{Result, done, refused, normalised, finished}
 use Rattle.model.specs.declared.Size.{Size}
-use Rattle.model.proofs.Packed.{Packed}
+use Rattle.model.specs.Sound.{Packed}
 use Rattle.rebuild.specs.Saved.{withWeights, withKeyWords}
 use Rattle.noise.specs.declared.Ending.{Ending}
 use Rattle.merging.specs.declared.Progress.{Progress}
@@ -50,8 +49,4 @@ pub record Readied (s : Size) (count : ℕ) (dirty : Bool) (w words phases w' : 
   pub packed : Packed s count w'
   pub entries : listed s count w' ≡ readied s dirty (listed s count w)
   pub long : (length words ≡ 256) × (length phases ≡ 256)
-  pub keys : dirty ≡ true → (take count words ≡ map (λ e. e .wordKey) (listed s count w)) × (take count phases ≡ map (λ e. e .phaseKey) (listed s count w))
-
--- what the definition of the channel leaves, once no test applies
-abbrev pub ranBy : Noise → Lent → Left
-ranBy c x = let m = rebuilt branching (x .header .dirty) (sumOf x) in left (noise c) x m (act engine (noise c) m)
+  pub keys : dirty ≡ true → (take count words ≡ map (λ e. e .wordKey) (listed s count w)) × (take count phases ≡ map (λ e. e .phaseLossKey) (listed s count w))

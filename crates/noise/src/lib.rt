@@ -1,23 +1,29 @@
 // Channels: document 01, point 5 (noise.rs).
+mod calls;
+
 use arms::Arms;
+pub use calls::channel;
+pub use calls::depolarize2;
+pub use calls::noise_number;
+pub use calls::rates_refused;
+pub use calls::two_qubit_pauli_error;
+use merging::Limits;
 use merging::Progress;
 use model::Answer;
-use model::Counts;
 use model::Header;
 use model::Size;
 ghost use mathlib.Core.Path.{_≡_};
-ghost use mathlib.Core.Bool.{true, not};
+ghost use mathlib.Core.Bool.{true};
 ghost use Prim.Native.Nat.{_<_, _≤_};
 ghost use lib.ListN.{length, take};
 ghost use Rattle.model.specs.Floats.{finiteFromZero};
 ghost use Rattle.model.specs.Entries.{listed};
 ghost use Rattle.model.specs.Channels.{Noise};
-ghost use Rattle.model.specs.Channels as Channels;
 ghost use Rattle.model.specs.Calls as Calls;
-ghost use Rattle.model.proofs.Packed.{Packed};
-ghost use Rattle.arms.specs.Arms.{Stands, ShapeBelow};
-ghost use Rattle.noise.specs.Finish.{Renormalised, Finished, putBack, Readied, ranBy};
-ghost use Rattle.spread.specs.Branches.{FewCoefficients};
+ghost use Rattle.model.specs.Sound.{Packed};
+ghost use Rattle.arms.specs.Arms.{Stands};
+ghost use Rattle.noise.specs.Finish.{Renormalised, Finished, putBack, Readied};
+ghost use Rattle.noise.specs.Tests.{MayRun};
 
 // ---- the end of a channel
 
@@ -74,7 +80,7 @@ pub fn undo(
     requires { ⌜ (length (now saved) ≡ 256) × (length (now words) ≡ 256) × (length (now phases) ≡ 256) ⌝ }
     ensures { λ _. ⌜ Packed size count (now (store .exit)) × (listed size count (now (store .exit)) ≡ putBack dirty (take count (now (saved .entry))) (take count (now (words .entry))) (take count (now (phases .entry))) (take count (listed size total (now (store .entry))))) ⌝ }
 {
-    rebuild::clear_from(store, size, count, total);
+    entries::clear_from(store, size, count, total);
     rebuild::restore_weights(store, size, count, saved);
     if dirty {
         rebuild::restore_keys(store, size, count, words, phases);
@@ -103,38 +109,25 @@ pub fn ready(
 
 // The channel itself, on a sum that its tests let through: 0, 6 or 9.
 pub fn run(h: Header, store: &mut [u64], arms: Arms) -> Answer
-    requires { ⌜ Packed (h .size) (h .count) (now store) × FewCoefficients (h .size) (h .count) (now store) × (finiteFromZero (h .cutoff) ≡ true) ⌝ }
-    requires { ⌜ ShapeBelow 64 (arms .shape) × (arms .count ≤ 15) ⌝ }
-    ensures { λ r. ⌜ ((c : Noise) → Stands arms c → Calls.gave r (now (store .exit)) ≡ ranBy c (Calls.held h (now (store .entry)))) ⌝ }
+    requires { ⌜ MayRun (Calls.held h (now store)) arms ⌝ }
+    ensures { λ r. ⌜ ((c : Noise) → Stands arms c → Calls.gave r (now (store .exit)) ≡ Calls.acted (Calls.noise c) (Calls.held h (now (store .entry)))) ⌝ }
 {
     let size = h.size;
     let count = h.count;
     let dirty = h.dirty;
+    let limits = Limits {
+        size,
+        threshold: h.threshold,
+        cutoff: h.cutoff,
+    };
     let mut words = [0u64; 256];
     let mut phases = [0u64; 256];
     let mut saved = [0u64; 256];
     ready(store, &mut words, &mut phases, size, count, dirty);
-    let p = spread::spread(store, &mut saved, size, h.threshold, h.cutoff, arms, count);
+    let p = spread::spread(store, &mut saved, limits, arms, count);
     let end = finish(store, size, h.cutoff, p);
     if end.number == 0 {
-        return Answer {
-            number: 0,
-            header: Header {
-                size,
-                count: end.count,
-                threshold: h.threshold,
-                cutoff: h.cutoff,
-                dirty: false,
-            },
-            counts: Counts {
-                merged: p.merged,
-                stored: p.stored,
-                dropped: p.dropped,
-                compared: p.compared,
-            },
-            place: 0,
-            length: 0,
-        };
+        return merging::answer(h, end.count, p);
     }
     undo(
         store,
@@ -146,5 +139,5 @@ pub fn run(h: Header, store: &mut [u64], arms: Arms) -> Answer
         &words,
         &phases,
     );
-    checks::plain_answer(h, end.number)
+    answers::plain_answer(h, end.number)
 }

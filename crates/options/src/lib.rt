@@ -222,29 +222,29 @@ pub fn place_of(name: &[u8]) -> Place
 fn say_argument(i: usize) {
     let mut argument = io::buffer();
     let n = os::arg(i, &mut argument);
-    rows::say(b"run_circuit: ");
-    rows::say_word(&argument, 0, n);
+    printing::say(b"run_circuit: ");
+    printing::say_word(&argument, 0, n);
 }
 
 fn say_unknown(i: usize) {
     say_argument(i);
-    rows::say(b": there is no such option; run_circuit --help lists what there is\n");
+    printing::say(b": there is no such option; run_circuit --help lists what there is\n");
 }
 
 fn say_too_long(i: usize) {
-    rows::say(b"run_circuit: argument ");
-    rows::say_number(i as u64);
-    rows::say(b" has more than 4096 bytes\n");
+    printing::say(b"run_circuit: argument ");
+    printing::say_number(i as u64);
+    printing::say(b" has more than 4096 bytes\n");
 }
 
 fn say_missing(i: usize) {
     say_argument(i);
-    rows::say(b": a value was expected after it\n");
+    printing::say(b": a value was expected after it\n");
 }
 
 fn say_second_file(i: usize) {
     say_argument(i);
-    rows::say(b": one file was expected, and this is the second\n");
+    printing::say(b": one file was expected, and this is the second\n");
 }
 
 // Which argument is the file: 0 if there is none. `ok`: all arguments are known and complete, else it is said what is wrong.
@@ -369,13 +369,13 @@ pub struct Count {
 }
 
 fn say_bad(name: &[u8], value: &[u8], expected: &[u8]) {
-    rows::say(b"run_circuit: ");
-    rows::say(name);
-    rows::say(b" ");
-    rows::say_word(value, 0, value.len());
-    rows::say(b": ");
-    rows::say(expected);
-    rows::say(b" was expected\n");
+    printing::say(b"run_circuit: ");
+    printing::say(name);
+    printing::say(b" ");
+    printing::say_word(value, 0, value.len());
+    printing::say(b": ");
+    printing::say(expected);
+    printing::say(b" was expected\n");
 }
 
 fn no_count() -> Count

@@ -14,9 +14,7 @@ use Rattle.model.specs.Numbers.{Test, gives, firstOf}
 use Rattle.model.specs.Sheet.{sheetText}
 use Rattle.model.specs.Sum.{Result, done, refused, mapResult}
 use Rattle.model.specs.Table.{Placed, placedFrom, insert, falling, tableOrder, tableFrom, tableWords}
-use Rattle.model.specs.Calls.{Call, noise, reset, gate, truncate, normalise, table, pick, sheet, view, Sum, Outcome, changedTo, Lent, Left, looking, kindOf, engine, bare, sheetOf, unless, tests, shape, padded, act, performed, accepted, plainAnswer, wordsAfter, left, step}
-use Rattle.model.proofs.Shape.{shaped}
-use Rattle.model.proofs.Steps.{worked}
+use Rattle.model.specs.Calls.{Call, noise, reset, gate, truncate, normalise, table, pick, sheet, view, Sum, Outcome, changedTo, Lent, Left, Form, looking, kindOf, engine, bare, sheetOf, unless, tests, shape, zerosPast, act, performed, accepted, plainAnswer, wordsAfter, left, step, worked}
 use Rattle.view.proofs.Answers.{Viewed, refused as view-refused, shown as view-shown, viewed, stretch-long}
 use Rattle.perform.specs.Encoding.{shownWords}
 
@@ -96,9 +94,8 @@ roomFor (view place) = shownWords
 
 view-fits : (x : Lent) (place : ℕ) → Viewed x place → length (step (view place) x .output) ≤ shownWords
 view-fits x place (view-refused n z e) = omega (arith, ap (λ (l : Left). length (l .output)) e)
-view-fits x place (view-shown s h e) =
-    let z = shaped x s .size in
-    omega (arith, ap (λ (l : Left). length (l .output)) e, stretch-long x place s h, z .qubits .high, z .coefficients .high)
+view-fits x place (view-shown h p e) =
+    omega (arith, ap (λ (l : Left). length (l .output)) e, stretch-long x place h p, p .sized .qubits .high, p .sized .coefficients .high)
 
 module _ (x : Lent) where
   -- a call whose act fits
@@ -106,7 +103,7 @@ module _ (x : Lent) where
   unfolding step performed
   stepped c k h =
       let m = worked c x in
-      let ts = tests c (m .size) (padded x) (bare engine m) in
+      let ts = tests c (m .size) (zerosPast x) (bare engine m) in
       let r = act engine c m in
       omega (arith, ap length (output-is c x m (unless (shape x) (unless ts r))), unless-fits (shape x) (unless ts r) k (unless-fits ts r k (h m)))
 
@@ -133,11 +130,11 @@ pub length-is : (c : Call) (x : Lent) → step c x .answer .length ≡ length (s
 unfolding step
 length-is c x = length-told c x _ _
 
-words-left : (c : Call) (x : Lent) (m : Sum Keyed) (r : Result (Outcome Keyed)) → kindOf c ≡ looking → left c x m r .words ≡ x .words
+words-left : (c : Call) (f : Form) (x : Lent) (m : Sum Keyed) (r : Result (Outcome Keyed)) → kindOf c ≡ looking f → left c x m r .words ≡ x .words
 unfolding left wordsAfter
-words-left c x m (refused n) e = refl
-words-left c x m (done o) e = rw e
+words-left c f x m (refused n) e = refl
+words-left c f x m (done o) e = rw e
 
-pub words-kept : (c : Call) (x : Lent) → kindOf c ≡ looking → step c x .words ≡ x .words
+pub words-kept : (c : Call) (f : Form) (x : Lent) → kindOf c ≡ looking f → step c x .words ≡ x .words
 unfolding step
-words-kept c x e = words-left c x _ _ e
+words-kept c f x e = words-left c f x _ _ e

@@ -2,7 +2,7 @@
 use Prim.Native.Nat.{ℕ, _+_}
 use mathlib.Core.Path.{_≡_}
 use mathlib.Core.List.{List, [], _∷_, _++_}
-use Rattle.model.specs.Calls.{Call, noise, reset, gate, truncate, normalise, table, pick, sheet, view, Lent, held, Left, step, over}
+use Rattle.model.specs.Calls.{Call, Form, asWords, asBytes, asEntry, formOf, kindOf, Lent, held, Left, step, overlaid}
 use Rattle.model.specs.declared.Header.{Header}
 use Rattle.model.specs.declared.Answer.{Answer}
 use Rattle.model.specs.Demand3.{next}
@@ -19,43 +19,31 @@ abbrev pub numbers : Answer → List ℕ
 numbers a =
     a .number ∷ a .counts .merged ∷ a .counts .stored ∷ a .counts .dropped ∷ a .counts .compared ∷ a .place ∷ a .length ∷ []
 
--- a sheet is text; all else that a call writes or shows stands in its record
-unfoldable pub inRecord : Call → List ℕ → List ℕ
-inRecord (noise c) w = w
-inRecord (reset q) w = w
-inRecord (gate g) w = w
-inRecord truncate w = w
-inRecord normalise w = w
-inRecord (table room) w = w
-inRecord (pick draw) w = w
-inRecord (sheet room) w = []
-inRecord (view place) w = w
+-- bytes are text; all else that a call writes or shows stands in its record
+unfoldable pub inRecord : Form → List ℕ → List ℕ
+inRecord asWords w = w
+inRecord asBytes w = []
+inRecord asEntry w = w
 
-unfoldable pub inText : Call → List ℕ → List ℕ
-inText (noise c) w = []
-inText (reset q) w = []
-inText (gate g) w = []
-inText truncate w = []
-inText normalise w = []
-inText (table room) w = []
-inText (pick draw) w = []
-inText (sheet room) w = w
-inText (view place) w = []
+unfoldable pub inText : Form → List ℕ → List ℕ
+inText asWords w = []
+inText asBytes w = w
+inText asEntry w = []
 
 abbrev pub recordOf : Call → Left → List ℕ
-recordOf c l = numbers (l .answer) ++ inRecord c (l .output)
+recordOf c l = numbers (l .answer) ++ inRecord (formOf (kindOf c)) (l .output)
 
 abbrev pub textOf : Call → Left → List ℕ
-textOf c l = inText c (l .output)
+textOf c l = inText (formOf (kindOf c)) (l .output)
 
 -- the call c, made on x: what it left in header and store, in its record and in its text, past what it wrote as they were
 pub record Made (c : Call) (x y : Lent) (r r' t t' : List ℕ) : Type 0 where
   pub next-is : y ≡ next (step c x)
-  pub record-is : r' ≡ over (recordOf c (step c x)) r
-  pub text-is : t' ≡ over (textOf c (step c x)) t
+  pub record-is : r' ≡ overlaid (recordOf c (step c x)) r
+  pub text-is : t' ≡ overlaid (textOf c (step c x)) t
 
 -- .. and of a call that changes no word of the store and writes no text
 pub record Looked (c : Call) (x : Lent) (h : Header) (r r' : List ℕ) : Type 0 where
   pub next-is : held h (x .words) ≡ next (step c x)
-  pub record-is : r' ≡ over (recordOf c (step c x)) r
+  pub record-is : r' ≡ overlaid (recordOf c (step c x)) r
   pub no-text : textOf c (step c x) ≡ []

@@ -15,7 +15,7 @@ ghost use Prim.Native.Nat.{ℕ, _<_, _≤_};
 ghost use lib.ListN.{length, getD};
 ghost use Rattle.model.specs.Channels.{one};
 ghost use Rattle.model.specs.Calls as Calls;
-ghost use Rattle.model.specs.Calls.{held, gave, step, over};
+ghost use Rattle.model.specs.Calls.{held, gave, step, overlaid};
 ghost use Rattle.perform.specs.Encoding.{callWords, shownWords, kindIn, firstIn, ratesIn, roomIn, callOf};
 ghost use Rattle.perform.specs.Encoding as Encoding;
 ghost use Rattle.perform.specs.Records.{numbers, recordWords, numberWords, Made, Looked};
@@ -128,15 +128,15 @@ fn make_noise(h: Header, store: &mut [u64], call: &[u64]) -> Answer
     let p = whole(call, 1);
     if kind < 3 {
         let c = channel_in(call);
-        return channels::channel(h, store, c, p);
+        return noise::channel(h, store, c, p);
     }
     let q = whole(call, 2);
     if kind == 3 {
         let all = rates(call);
-        return channels::two_qubit_pauli_error(h, store, all, p, q);
+        return noise::two_qubit_pauli_error(h, store, all, p, q);
     }
     let x = rate(call, 0);
-    channels::depolarize2(h, store, x, p, q)
+    noise::depolarize2(h, store, x, p, q)
 }
 
 // A call that names no rate: a reset, a gate, truncate or normalise, kinds 5 to 10.
@@ -147,16 +147,16 @@ fn make_plain(h: Header, store: &mut [u64], call: &[u64]) -> Answer
     let kind = call[0];
     if kind == 5 {
         let q = whole(call, 1);
-        return channels::reset_loss_channel(h, store, q);
+        return reset::reset_loss_channel(h, store, q);
     }
     if kind < 9 {
         let g = gate_in(call);
-        return sum::gate(h, store, g);
+        return gates::gate(h, store, g);
     }
     if kind == 9 {
-        return sum::truncate(h, store);
+        return weights::truncate(h, store);
     }
-    sum::normalise(h, store)
+    weights::normalise(h, store)
 }
 
 // ---- the record
@@ -164,7 +164,7 @@ fn make_plain(h: Header, store: &mut [u64], call: &[u64]) -> Answer
 // An answer's numbers at the start of a record.
 fn put_numbers(out: &mut [u64], a: Answer)
     requires { ⌜ numberWords ≤ length (now out) ⌝ }
-    ensures { λ _. ⌜ now (out .exit) ≡ over (numbers a) (now (out .entry)) ⌝ }
+    ensures { λ _. ⌜ now (out .exit) ≡ overlaid (numbers a) (now (out .entry)) ⌝ }
 {
     let counts = a.counts;
     let all = [

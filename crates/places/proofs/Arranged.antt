@@ -11,8 +11,9 @@ use Rattle.model.specs.Entries.{Keyed, entryOf, stretch, listed}
 use Rattle.model.specs.declared.Size.{Size}
 use Rattle.model.proofs.Lists.{getD-mapped}
 use Rattle.model.proofs.Entries.{length-listed, listed-at}
-use Rattle.model.proofs.Packed.{Packed}
-use Rattle.places.specs.Places.{exchanged, picked, Distinct}
+use Rattle.model.specs.Sound.{Packed}
+use Rattle.entries.specs.Exchanged.{exchanged}
+use Rattle.places.specs.Places.{picked, Distinct}
 use Rattle.places.specs.Settled.{Inverse, Settled}
 use Rattle.places.proofs.Inverse.{stays, later, exchange-settles, exchange-keeps, copy-settles, copy-keeps}
 

@@ -11,7 +11,7 @@ use Rattle.model.specs.Store.{Split}
 use Rattle.model.specs.Reset.{leavingAt, leftAt, drained}
 use Rattle.model.proofs.Lists.{getD-mapped}
 use Rattle.model.proofs.Merging.{map-take}
-use Rattle.places.proofs.Exchange.{map-set}
+use Rattle.entries.proofs.Exchange.{map-set}
 
 module _ {Y : Type 0} (p : Y → Bool) where
   -- what the definition makes of the one that leaves, if one does

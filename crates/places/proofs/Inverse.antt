@@ -8,9 +8,10 @@ use native.Mathlib.Decide.{ℕ-discrete}
 use native.Mathlib.Omega.{arith}
 use lib.ListN.{length, getD, set, replicate, length-set, getD-replicate, length-replicate}
 use lib.Seq.{getD-set-same, getD-set-other}
-use Rattle.places.specs.Places.{exchanged, Distinct}
+use Rattle.entries.specs.Exchanged.{exchanged}
+use Rattle.places.specs.Places.{Distinct}
 use Rattle.places.specs.Settled.{Inverse, Settled}
-use Rattle.places.proofs.Exchange.{first-there, second-there, others-there}
+use Rattle.entries.proofs.Exchange.{first-there, second-there, others-there}
 
 -- two numbers are the same, or not
 pub either : {P : Type 0} (a b : ℕ) → (a ≡ b → P) → ((a ≡ b → ⊥) → P) → P

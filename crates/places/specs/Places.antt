@@ -2,14 +2,10 @@
 use Prim.Native.Nat.{ℕ, _-_, _≤_, _<_}
 use mathlib.Core.Path.{_≡_}
 use mathlib.Core.List.{List, map}
-use lib.ListN.{length, take, getD, set}
+use lib.ListN.{length, take, getD}
 use Rattle.model.specs.Entries.{Keyed, entryOf, stretch, listed}
 use Rattle.model.specs.declared.Size.{Size}
 use Rattle.places.specs.Leaving.{leaving}
-
--- those at places a and b exchanged; d stands for one past the end
-unfoldable pub exchanged : {X : Type 0} → X → ℕ → ℕ → List X → List X
-exchanged d a b l = set (set l a (getD l b d)) b (getD l a d)
 
 -- the entries that stand at the first m of these places
 unfoldable pub picked : Size → ℕ → (places w : List ℕ) → List Keyed

@@ -1,12 +1,11 @@
 // A list of entries given by their places in the store: entries leave it, and the store is put into its order.
 use model::Size;
 ghost use mathlib.Core.Path.{_≡_};
-ghost use mathlib.Core.List.{[]};
 ghost use Prim.Native.Nat.{ℕ, _+_, _<_, _≤_};
 ghost use lib.ListN.{length, getD};
-ghost use Rattle.model.specs.Entries.{entryOf, listed};
-ghost use Rattle.model.proofs.Packed.{Packed};
-ghost use Rattle.places.specs.Places.{exchanged, picked, Distinct, Left};
+ghost use Rattle.model.specs.Entries.{listed};
+ghost use Rattle.model.specs.Sound.{Packed};
+ghost use Rattle.places.specs.Places.{picked, Distinct, Left};
 ghost use Rattle.places.specs.Settled.{Inverse, Settled};
 
 // ---- entries leave
@@ -38,7 +37,7 @@ pub fn leave(
     requires { ⌜ Packed size count (now store) × (q < 64) × (length (now order) ≡ 256) × (length (now left) ≡ 256) × ((i : ℕ) → i < count → getD (now order) i 0 ≡ i) ⌝ }
     ensures { λ r. ⌜ Left size count q (now (store .entry)) (now (order .exit)) (now (left .exit)) r ⌝ }
 {
-    let len = checks::entry_len(size);
+    let len = entries::entry_len(size);
     let mut stay = count;
     let mut out = 0;
     let mut i = count;
@@ -55,23 +54,6 @@ pub fn leave(
 }
 
 // ---- the store is put into their order
-
-// Two entries change places.
-pub fn swap_entries(store: &mut [u64], size: Size, count: usize, a: usize, b: usize)
-    requires { ⌜ Packed size count (now store) × (a < b) × (b < count) ⌝ }
-    ensures { λ _. ⌜ Packed size count (now (store .exit)) × (listed size count (now (store .exit)) ≡ exchanged (entryOf size []) a b (listed size count (now (store .entry)))) ⌝ }
-{
-    let len = checks::entry_len(size);
-    let at = a * len;
-    let bt = b * len;
-    let mut k = 0;
-    while k < len {
-        let x = store[at + k];
-        store[at + k] = store[bt + k];
-        store[bt + k] = x;
-        k += 1;
-    }
-}
 
 // Which of the first `many` of the order stands at each place: 256 where none does.
 fn fill_holds(order: &[usize; 256], many: usize) -> [usize; 256]
@@ -109,12 +91,12 @@ fn settle(
     order[v] = v;
     holds[v] = v;
     if x < many {
-        swap_entries(store, size, count, v, s);
+        entries::swap_entries(store, size, count, v, s);
         order[x] = s;
         holds[s] = x;
         return;
     }
-    weights::move_entry(store, size, count, s, v);
+    entries::move_entry(store, size, count, s, v);
     holds[s] = 256;
 }
 
@@ -129,5 +111,5 @@ pub fn arrange(store: &mut [u64], size: Size, count: usize, order: &mut [usize; 
         settle(store, size, count, order, &mut holds, many, v);
         v += 1;
     }
-    rebuild::clear_from(store, size, many, count);
+    entries::clear_from(store, size, many, count);
 }

@@ -19,10 +19,11 @@ use Rattle.model.specs.Sum.{done}
 use Rattle.model.specs.declared.Header.{Header}
 use Rattle.model.specs.declared.Answer.{Answer}
 use Rattle.model.proofs.Lists.{and-both}
-use Rattle.model.proofs.Shape.{Sized, sized}
-use Rattle.checks.specs.Sized.{Within}
+use Rattle.model.specs.Sound.{Sized}
+use Rattle.model.proofs.Shape.{sized}
+use Rattle.entries.specs.Within.{Within}
 use Rattle.fields.specs.Read.{isSome}
-use Rattle.reader.specs.Reading.{linesOn, headerIn, entriesIn, sheetIn, zeroKeyed, sheetNumber, Sound}
+use Rattle.reader.specs.Reading.{linesOn, headerIn, entriesIn, sheetIn, zeroKeyed, sheetNumber, Readable}
 use Rattle.reader.proofs.Walked.{entries-length}
 use Rattle.reader.proofs.Entry.{wordsRead}
 use Rattle.reader.proofs.Sheets.{Read, is-read}
@@ -80,11 +81,11 @@ module _ (text : List ℕ) (len : ℕ) where
   number-0 e p q s = number-is (is-read text e) true true true p q s e
 
   -- none is given
-  pub sound : sheetNumber text len ≡ 0 → Sound text len
+  pub sound : sheetNumber text len ≡ 0 → Readable text len
   unfolding sheetNumber
   sound z = go (isSome (readSheet text)) refl
     where
-      go : (b : Bool) → isSome (readSheet text) ≡ b → Sound text len
+      go : (b : Bool) → isSome (readSheet text) ≡ b → Readable text len
       go true e = record { read = e; tests = sym (ap (λ (b : Bool). cond b (firstOf (sheetTests (sheetIn text) len)) 7) e) ∙ z }
       go false e = absurd (omega (arith, z, ap (λ (b : Bool). cond b (firstOf (sheetTests (sheetIn text) len)) 7) e))
 
@@ -96,7 +97,7 @@ pub record Tested (text : List ℕ) (len : ℕ) : Type 0 where
   pub count : headerIn text .count ≤ headerIn text .size .capacity
   pub entries : entriesSound (headerIn text .size) (entriesIn text) ≡ true
 
-pub tested : (text : List ℕ) (len : ℕ) → Sound text len → Tested text len
+pub tested : (text : List ℕ) (len : ℕ) → Readable text len → Tested text len
 unfolding headerSound
 tested text len s =
     go (sizeSound (headerIn text .size) len) (headerSound (headerIn text)) (entriesSound (headerIn text .size) (entriesIn text)) refl refl refl
@@ -197,7 +198,7 @@ module _ (text w : List ℕ) where
       (sym (count-is text r))
       (sym (done-left (entriesIn text)))
 
-  pub is-accepted : {r : Answer} {z : Header} {v : List ℕ} → Sound text (length w) → r ≡ plainAnswer z 0 → z ≡ headerIn text → v ≡ pack (headerIn text .size) (map zeroKeyed (entriesIn text))
+  pub is-accepted : {r : Answer} {z : Header} {v : List ℕ} → Readable text (length w) → r ≡ plainAnswer z 0 → z ≡ headerIn text → v ≡ pack (headerIn text .size) (map zeroKeyed (entriesIn text))
       → gave r v ≡ start (Calls.read text) w
   unfolding start begins
   is-accepted s a b e =

@@ -14,7 +14,7 @@ use Rattle.model.specs.Numbers.{weightSound, fitsIn, bodySound}
 use Rattle.model.specs.declared.Size.{Size}
 use Rattle.model.proofs.Lists.{and-both, and-false}
 use Rattle.model.proofs.Packed.{Fits}
-use Rattle.checks.specs.Sized.{entrySound}
+use Rattle.checks.specs.Sound.{entrySound}
 use Rattle.fields.proofs.Lines.{numbers, numbers-length, read-lines}
 use Rattle.fields.proofs.Pieces.{every-drop}
 use Rattle.reader.specs.Reading.{Lined, linesOn, countOn, entrySpan, entryOn, zeroKeyed}

@@ -16,7 +16,7 @@ use Rattle.model.specs.Numbers.{weightSound, bodySound, fitsIn, coefSound, coef
 use Rattle.model.specs.declared.Size.{Size}
 use Rattle.model.proofs.Lists.{and-both, all-at, length-groups}
 use Rattle.model.proofs.Groups.{words-are}
-use Rattle.checks.specs.Sized.{entrySound}
+use Rattle.checks.specs.Sound.{entrySound}
 use Rattle.fields.proofs.Lines.{isWord, numbers, numbers-are}
 
 -- what an entry must be besides sound: as many words as the size says, each below 2^64

@@ -17,10 +17,11 @@ use Rattle.model.specs.Sheet.{Sheet, line, lineLen, firstLine, sheetLines, shee
 use Rattle.model.specs.Numbers.{gives, firstOf, sizeSound, boundsSound, entriesSound}
 use Rattle.model.specs.Calls.{sheetTests}
 use Rattle.model.proofs.Shape.{sized}
-use Rattle.checks.specs.Sized.{entrySound}
+use Rattle.checks.specs.Sound.{entrySound}
 use Rattle.checks.proofs.Words.{entries-one-pass}
 use Rattle.fields.specs.Read.{isSome}
-use Rattle.fields.proofs.Lines.{isWord, line-read, lines-read, length-line}
+use Rattle.model.proofs.Sheet.{length-line}
+use Rattle.fields.proofs.Lines.{isWord, line-read, lines-read}
 use Rattle.reader.specs.Reading.{sheetIn}
 use Rattle.reader.proofs.Sheets.{is-read}
 use Rattle.reader.proofs.Rewritten.{sheet-again}

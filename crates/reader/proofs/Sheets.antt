@@ -14,7 +14,8 @@ use Rattle.model.specs.Floats.{float}
 use Rattle.model.specs.Entries.{Entry}
 use Rattle.model.specs.Sheet.{Sheet, columns, lineLen, line, fieldValue, lineFields, linesFields, also, readEntries, readLines, readSheet}
 use Rattle.fields.specs.Read.{isSome}
-use Rattle.fields.proofs.Lines.{numbers, numbers-are, length-line, read-line, lines-read, line-field}
+use Rattle.model.proofs.Sheet.{length-line}
+use Rattle.fields.proofs.Lines.{numbers-are, read-line, lines-read, line-field}
 use Rattle.reader.specs.Reading.{got, linesOn, entriesOn, headerOn, headerIn, sheetIn}
 use Rattle.reader.proofs.Lined.{got-some}
 

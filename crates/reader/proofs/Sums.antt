@@ -15,12 +15,11 @@ use Rattle.model.specs.Lists.{every, groups}
 use Rattle.model.specs.Entries.{strip, headLen, coefsLen, rowsLen, entryLen, bareWords, entryOf, listed}
 use Rattle.model.specs.Sheet.{sheetText, readSheet}
 use Rattle.model.specs.Numbers.{gives, firstOf, sizeSound, boundsSound, entriesSound}
-use Rattle.model.specs.Calls.{Lent, sumOf, engine, sheetOf, shape, padded, sheetTests}
+use Rattle.model.specs.Calls.{Lent, sumOf, engine, sheetOf, shape, zerosPast, sheetTests, wordsSound}
 use Rattle.model.specs.declared.Size.{Size}
 use Rattle.model.proofs.Lists.{and-both}
 use Rattle.model.proofs.Entries.{length-listed}
 use Rattle.model.proofs.Shape.{shaped, listed-within}
-use Rattle.model.proofs.Sound.{sound}
 use Rattle.fields.proofs.Lines.{isWord}
 use Rattle.fields.proofs.Pieces.{every-drop}
 use Rattle.reader.proofs.Reread.{fitting}
@@ -96,14 +95,14 @@ module _ (x : Lent) (z : firstOf (shape x) ≡ 0) where
       rw (le-ltb (x .header .size .capacity) (length (map strip es)) (omega (arith, h .count)), h .bounds)
 
   -- A SOUND SUM'S SHEET IS READ AS THE SUM
-  pub sum-read-back : sound x ≡ true → every isWord (x .words) ≡ true → T (fits binary64 (x .header .threshold)) → T (fits binary64 (x .header .cutoff))
+  pub sum-read-back : wordsSound x ≡ true → every isWord (x .words) ≡ true → T (fits binary64 (x .header .threshold)) → T (fits binary64 (x .header .cutoff))
       → readSheet (sheetText (sheetOf engine (sumOf x))) ≡ some (sheetOf engine (sumOf x))
   unfolding sheetTests
   sum-read-back e w t c =
       let es = map strip (listed (x .header .size) (x .header .count) (x .words)) in
       read-written (sheetOf engine (sumOf x)) (length (x .words))
       (record {
-        tests = no-refusal _ _ _ size-sound bounds-pass (and-both (padded x) (entriesSound (x .header .size) es) e .1);
+        tests = no-refusal _ _ _ size-sound bounds-pass (and-both (zerosPast x) (entriesSound (x .header .size) es) e .1);
         threshold = t;
         cutoff = c;
         entries = listed-fit (x .header .size) (x .header .count) (x .words) (listed-within x (shaped x z)) w;

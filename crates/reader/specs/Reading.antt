@@ -10,7 +10,7 @@ use Rattle.model.specs.Floats.{float}
 use Rattle.model.specs.Entries.{Entry, Keyed}
 use Rattle.model.specs.Sheet.{Sheet, lineLen, lineFields, linesFields, readEntry, readEntries, readSheet}
 use Rattle.model.specs.Numbers.{firstOf}
-use Rattle.model.specs.Calls.{sheetTests}
+use Rattle.model.specs.Calls.{headerOf, sheetTests}
 use Rattle.model.specs.declared.Size.{Size}
 use Rattle.model.specs.declared.Header.{Header}
 use Rattle.fields.specs.Read.{isSome}
@@ -53,20 +53,14 @@ entriesOn s count ls = got (readEntries s count ls)
 
 -- reading sets keys to 0
 abbrev pub zeroKeyed : Entry → Keyed
-zeroKeyed e = record { entry = e; wordKey = 0; phaseKey = 0 }
+zeroKeyed e = record { entry = e; wordKey = 0; phaseLossKey = 0 }
 
 -- ---- the sheet
 
 -- line 1 as a header, dirty
 abbrev pub headerOn : List ℕ → Header
 headerOn h =
-    record {
-      size = record { n = getD h 0 0; k = getD h 1 0; capacity = getD h 2 0 };
-      count = getD h 3 0;
-      threshold = float (getD h 4 0);
-      cutoff = float (getD h 5 0);
-      dirty = true;
-    }
+    headerOf (record { n = getD h 0 0; k = getD h 1 0; capacity = getD h 2 0 }) (getD h 3 0) (float (getD h 4 0)) (float (getD h 5 0)) true
 
 abbrev pub headerIn : List ℕ → Header
 headerIn text = headerOn (got (lineFields 6 (take (lineLen 6) text)))
@@ -83,6 +77,6 @@ unfoldable pub sheetNumber : List ℕ → ℕ → ℕ
 sheetNumber text len = cond (isSome (readSheet text)) (firstOf (sheetTests (sheetIn text) len)) 7
 
 -- .. and it gives none
-pub record Sound (text : List ℕ) (len : ℕ) : Type 0 where
+pub record Readable (text : List ℕ) (len : ℕ) : Type 0 where
   pub read : isSome (readSheet text) ≡ true
   pub tests : firstOf (sheetTests (sheetIn text) len) ≡ 0

@@ -9,13 +9,14 @@ ghost use Prim.Native.Nat.{_+_, _*_, _≤_};
 ghost use lib.ListN.{length, take, drop, getD};
 ghost use Rattle.model.specs.Lists.{joined};
 ghost use Rattle.model.specs.Entries.{entryLen, wordsOf, pack};
-ghost use Rattle.model.specs.Sheet.{lineFields, lineLen, readEntries, readSheet};
+ghost use Rattle.model.specs.Sheet.{lineFields, readEntries, readSheet};
 ghost use Rattle.model.specs.Numbers as Numbers;
 ghost use Rattle.model.specs.Calls as Calls;
 ghost use Rattle.model.specs.Calls.{gave, start};
-ghost use Rattle.checks.specs.Sized.{Within, entrySound};
+ghost use Rattle.entries.specs.Within.{Within};
+ghost use Rattle.checks.specs.Sound.{entrySound};
 ghost use Rattle.fields.specs.Read.{isSome};
-ghost use Rattle.reader.specs.Reading.{got, Lined, linesOn, countOn, entrySpan, entryBytes, entryOn, entriesOn, zeroKeyed, headerOn, sheetNumber, Sound, sheetIn};
+ghost use Rattle.reader.specs.Reading.{got, Lined, linesOn, countOn, entrySpan, entryBytes, entryOn, entriesOn, zeroKeyed, headerOn, sheetNumber, Readable, sheetIn};
 
 // ---- bytes and lines
 
@@ -116,7 +117,7 @@ pub fn entry_accepted(text: &[u8], size: Size) -> bool
     if (k as u64) < fields::number_at(text, 42) {
         return false;
     }
-    let len = checks::entry_len(size);
+    let len = entries::entry_len(size);
     let mut scratch = [0u64; 581];
     read_entry(&mut scratch[0..len], text, size);
     checks::entry_sound(&scratch[0..len], size)
@@ -166,7 +167,7 @@ pub fn put_entries(slots: &mut [u64], text: &[u8], size: Size, count: usize)
     requires { ⌜ Lined (now text) × (isSome (readEntries size count (linesOn (now text))) ≡ true) × (Numbers.entriesSound size (entriesOn size count (linesOn (now text))) ≡ true) ⌝ }
     ensures { λ _. ⌜ now (slots .exit) ≡ joined (map (λ e. wordsOf (zeroKeyed e)) (entriesOn size count (linesOn (now (text .entry))))) ⌝ }
 {
-    let len = checks::entry_len(size);
+    let len = entries::entry_len(size);
     let mut at = 0;
     let mut to = 0;
     let mut i = 0;
@@ -194,13 +195,7 @@ pub fn header_on(first: &[u8]) -> Header
     let threshold = words::float_of(fields::number_at(first, 84));
     let cutoff = words::float_of(fields::number_at(first, 105));
     let size = Size { n, k, capacity };
-    Header {
-        size,
-        count,
-        threshold,
-        cutoff,
-        dirty: true,
-    }
+    answers::header(size, count, threshold, cutoff, true)
 }
 
 // Number 7 does not apply: line 1, the lines of the entries, and nothing more.
@@ -246,13 +241,13 @@ pub fn sheet_number(text: &[u8], words: usize) -> u64
 
 // Every word of the store: the entries in their slots, and 0 in the slots past them.
 pub fn put_sheet(store: &mut [u64], text: &[u8])
-    requires { ⌜ Sound (now text) (length (now store)) ⌝ }
+    requires { ⌜ Readable (now text) (length (now store)) ⌝ }
     ensures { λ _. ⌜ now (store .exit) ≡ pack (sheetIn (now (text .entry)) .size) (map zeroKeyed (sheetIn (now (text .entry)) .entries)) ⌝ }
 {
     let h = header_on(first_line(text));
     let size = h.size;
     let count = h.count;
-    let past = count * checks::entry_len(size);
+    let past = count * entries::entry_len(size);
     put_entries(&mut store[0..past], text_from(text, 127), size, count);
     words::clear(&mut store[past..]);
 }
@@ -263,9 +258,9 @@ pub fn read_sheet(text: &[u8], store: &mut [u64]) -> Answer
 {
     let number = sheet_number(text, store.len());
     if number != 0 {
-        return checks::plain_answer(checks::zero_header(), number);
+        return answers::plain_answer(answers::zero_header(), number);
     }
     put_sheet(store, text);
     let h = header_on(first_line(text));
-    checks::plain_answer(h, 0)
+    answers::plain_answer(h, 0)
 }

@@ -1,11 +1,14 @@
 -- Saved words put back: a list that differs from the saved one in those words alone becomes it, whatever stands behind it. Assumes nothing.
 use mathlib.Core.Path.{_≡_, refl, sym, ap, _∙_}
 use mathlib.Core.List.{List, [], _∷_, _++_, append-nil, map}
-use Prim.Native.Nat.{ℕ}
+use Prim.Native.Nat.{ℕ, zero, suc, _≤_}
+use native.Mathlib.Nat.{not-suc-le-zero, le-of-suc-le-suc}
+use lib.ListN.{length, take, getD}
 use Rattle.model.specs.Entries.{Entry, Keyed, strip}
 use Rattle.model.specs.Keys.{keyed}
 use Rattle.model.specs.Store.{keyedWeighed, weightOf, reweighed}
 use Rattle.model.specs.Calls.{rebuiltEntries}
+use Rattle.entries.proofs.Turns.{changedBelow}
 use Rattle.rebuild.specs.Saved.{eachBy, withWeights, withWordKey, withPhaseKey, withKeyWords}
 
 -- an entry with its weight set aside
@@ -32,13 +35,13 @@ weights-back =
 
 -- the two key words of each
 abbrev pub withKeysOf : List Keyed → List Keyed → List Keyed
-withKeysOf es ds = withKeyWords (map (λ e. e .wordKey) es) (map (λ e. e .phaseKey) es) ds
+withKeysOf es ds = withKeyWords (map (λ e. e .wordKey) es) (map (λ e. e .phaseLossKey) es) ds
 
 pub keys-back : (ds es rest : List Keyed) → map strip ds ≡ map strip es → withKeysOf es (ds ++ rest) ≡ es ++ rest
 unfolding withKeyWords eachBy withWordKey withPhaseKey
 keys-back =
     all-back strip withKeysOf (λ ds. refl)
-    (λ d e ds es p. ap (λ (x : Entry). record { entry = x; wordKey = e .wordKey; phaseKey = e .phaseKey } ∷ withKeysOf es ds) p)
+    (λ d e ds es p. ap (λ (x : Entry). record { entry = x; wordKey = e .wordKey; phaseLossKey = e .phaseLossKey } ∷ withKeysOf es ds) p)
 
 -- one key after the other
 pub both-keys : {ds ws : List Keyed} (words phases : List ℕ) (es : List Keyed) → ws ≡ eachBy withWordKey words es → ds ≡ eachBy withPhaseKey phases ws → ds ≡ withKeyWords words phases es
@@ -61,3 +64,12 @@ rebuilt-same n (e ∷ es) = ap (λ (l : List Entry). e .entry ∷ l) (rebuilt-sa
 
 pub keys-restored : (n : ℕ) (es : List Keyed) → withKeysOf es (rebuiltEntries n es) ≡ es
 keys-restored n es = whole (withKeysOf es) (rebuiltEntries n es) es (keys-back (rebuiltEntries n es) es [] (rebuilt-same n es))
+
+-- ---- put back by a loop, entry by entry
+
+pub below-by : (f : ℕ → Keyed → Keyed) (n : ℕ) (vs : List ℕ) (es : List Keyed) → n ≤ length vs → changedBelow (λ i. f (getD vs i 0)) n es ≡ eachBy f (take n vs) es
+unfolding changedBelow eachBy
+below-by f zero vs es h = refl
+below-by f (suc n) [] es h = absurd (not-suc-le-zero h)
+below-by f (suc n) (v ∷ vs) [] h = refl
+below-by f (suc n) (v ∷ vs) (e ∷ es) h = ap (λ (l : List Keyed). f v e ∷ l) (below-by f n vs es (le-of-suc-le-suc h))

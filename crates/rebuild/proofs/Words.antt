@@ -13,7 +13,8 @@ use Rattle.model.specs.Store.{reweighed}
 use Rattle.model.specs.declared.Size.{Size}
 use Rattle.model.proofs.Groups.{groups-add}
 use Rattle.model.proofs.Packed.{words-entry}
-use Rattle.rebuild.specs.Saved.{Became, wordAt, withWord, withLoss, withWordKey, withPhaseKey}
+use Rattle.entries.specs.Became.{Became}
+use Rattle.rebuild.specs.Saved.{wordAt, withWord, withLoss, withWordKey, withPhaseKey}
 
 -- a word written, which the rows are behind
 put-field : (s : Size) (j v a b c d f : ℕ) (r : List ℕ) → j < 4

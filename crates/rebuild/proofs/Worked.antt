@@ -7,14 +7,14 @@ use native.Mathlib.Nat.{eq-or-lt-of-le, le-of-suc-le-suc}
 use native.Mathlib.Omega.{arith}
 use lib.ListN.{length, take, getD, set, length-set, length-map}
 use lib.Seq.{getD-set-same, getD-set-other, getD-take, length-take-le, ext-getD}
-use Rattle.model.specs.Entries.{Keyed, phaseAt, entryOf, listed, stretch}
-use Rattle.model.specs.Keys.{bit, usualSalts, phaseLossKey, wordKeyOf, phaseKeyOf, keyed}
+use Rattle.model.specs.Entries.{Keyed, phaseAt, entryOf, listed, stretch, bodyIn}
+use Rattle.model.specs.Keys.{bit, usualSalts, phaseLossKey, wordKeyOf, phaseLossKeyOf, keyed}
 use Rattle.model.specs.declared.Salts.{Salts}
 use Rattle.model.specs.Calls.{rebuiltEntries}
 use Rattle.model.specs.declared.Size.{Size}
 use Rattle.model.proofs.Lists.{getD-mapped}
-use Rattle.model.proofs.Entries.{bodyOf, length-listed, listed-at}
-use Rattle.rebuild.specs.Saved.{phaseKeyAt, eachBy, withWordKey, withPhaseKey, withKeyWords}
+use Rattle.model.proofs.Entries.{length-listed, listed-at}
+use Rattle.rebuild.specs.Saved.{phaseLossKeyAt, eachBy, withWordKey, withPhaseKey, withKeyWords}
 
 -- the first i words are f 0, f 1, ..
 pub record Worked (f : ℕ → ℕ) (i : ℕ) (found : List ℕ) : Type 0 where
@@ -51,19 +51,19 @@ worked-all {found} s count store g i e l w =
 -- ---- keys
 
 -- from an entry's rows and its loss word
-pub phase-key-is : {r loss : ℕ} {rows : List ℕ} {salts : Salts} (s : Size) (w : List ℕ) (i : ℕ) → r ≡ phaseLossKey salts (s .n) (phaseAt rows) (λ q. bit q loss)
-    → salts ≡ usualSalts → rows ≡ bodyOf s (stretch s w i) .rows → loss ≡ bodyOf s (stretch s w i) .loss → r ≡ phaseKeyAt s w i
-unfolding phaseKeyOf
-phase-key-is {r} {loss} {rows} {salts} s w i e es er el =
+pub phase-loss-key-is : {r loss : ℕ} {rows : List ℕ} {salts : Salts} (s : Size) (w : List ℕ) (i : ℕ) → r ≡ phaseLossKey salts (s .n) (phaseAt rows) (λ q. bit q loss)
+    → salts ≡ usualSalts → rows ≡ bodyIn s (stretch s w i) .rows → loss ≡ bodyIn s (stretch s w i) .loss → r ≡ phaseLossKeyAt s w i
+unfolding phaseLossKeyOf
+phase-loss-key-is {r} {loss} {rows} {salts} s w i e es er el =
     e ∙ ap₂ (λ (t : Salts) (l : List ℕ). phaseLossKey t (s .n) (phaseAt l) (λ q. bit q loss)) es er
-    ∙ ap (λ (l : ℕ). phaseLossKey usualSalts (s .n) (phaseAt (bodyOf s (stretch s w i) .rows)) (λ q. bit q l)) el
+    ∙ ap (λ (l : ℕ). phaseLossKey usualSalts (s .n) (phaseAt (bodyIn s (stretch s w i) .rows)) (λ q. bit q l)) el
 
 -- the two keys of each entry, put into it
-keys-rebuilt : (n : ℕ) (es : List Keyed) → withKeyWords (map (λ e. wordKeyOf n (e .entry .body)) es) (map (λ e. phaseKeyOf usualSalts n (e .entry .body)) es) es ≡ rebuiltEntries n es
+keys-rebuilt : (n : ℕ) (es : List Keyed) → withKeyWords (map (λ e. wordKeyOf n (e .entry .body)) es) (map (λ e. phaseLossKeyOf usualSalts n (e .entry .body)) es) es ≡ rebuiltEntries n es
 unfolding withKeyWords eachBy withWordKey withPhaseKey rebuiltEntries keyed
 keys-rebuilt n [] = refl
 keys-rebuilt n (e ∷ es) = ap (λ (l : List Keyed). keyed usualSalts n (e .entry) ∷ l) (keys-rebuilt n es)
 
-pub all-rebuilt : {ws ps : List ℕ} {new : List Keyed} (n : ℕ) (es : List Keyed) → ws ≡ map (λ e. wordKeyOf n (e .entry .body)) es → ps ≡ map (λ e. phaseKeyOf usualSalts n (e .entry .body)) es
+pub all-rebuilt : {ws ps : List ℕ} {new : List Keyed} (n : ℕ) (es : List Keyed) → ws ≡ map (λ e. wordKeyOf n (e .entry .body)) es → ps ≡ map (λ e. phaseLossKeyOf usualSalts n (e .entry .body)) es
     → new ≡ withKeyWords ws ps es → new ≡ rebuiltEntries n es
 all-rebuilt n es ew ep e = e ∙ ap₂ (λ (w p : List ℕ). withKeyWords w p es) ew ep ∙ keys-rebuilt n es

@@ -1,10 +1,9 @@
 -- An entry's words that a call saves and puts back: its weight and its two keys. Assumes nothing.
-use mathlib.Core.Path.{_≡_}
 use mathlib.Core.List.{List, [], _∷_}
 use Prim.Native.Nat.{ℕ, zero, suc}
-use lib.ListN.{length, getD}
-use Rattle.model.specs.Entries.{Keyed, entryLen, wordsOf, entryOf, stretch}
-use Rattle.model.specs.Keys.{usualSalts, wordKeyOf, phaseKeyOf}
+use lib.ListN.{getD}
+use Rattle.model.specs.Entries.{Keyed, wordsOf, entryOf, stretch}
+use Rattle.model.specs.Keys.{usualSalts, wordKeyOf, phaseLossKeyOf}
 use Rattle.model.specs.Store.{keyedWeighed, reweighed}
 use Rattle.model.specs.declared.Size.{Size}
 
@@ -19,10 +18,10 @@ unfoldable pub withWeights : List ℕ → List Keyed → List Keyed
 withWeights ws es = eachBy (reweighed keyedWeighed) ws es
 
 unfoldable pub withWordKey : ℕ → Keyed → Keyed
-withWordKey k e = record { entry = e .entry; wordKey = k; phaseKey = e .phaseKey }
+withWordKey k e = record { entry = e .entry; wordKey = k; phaseLossKey = e .phaseLossKey }
 
 unfoldable pub withPhaseKey : ℕ → Keyed → Keyed
-withPhaseKey p e = record { entry = e .entry; wordKey = e .wordKey; phaseKey = p }
+withPhaseKey p e = record { entry = e .entry; wordKey = e .wordKey; phaseLossKey = p }
 
 -- the first entries given these word keys and these phase-loss keys
 unfoldable pub withKeyWords : (words phases : List ℕ) → List Keyed → List Keyed
@@ -32,8 +31,8 @@ withKeyWords words phases es = eachBy withPhaseKey phases (eachBy withWordKey wo
 abbrev pub wordKeyAt : Size → List ℕ → ℕ → ℕ
 wordKeyAt s w i = wordKeyOf (s .n) (entryOf s (stretch s w i) .entry .body)
 
-abbrev pub phaseKeyAt : Size → List ℕ → ℕ → ℕ
-phaseKeyAt s w i = phaseKeyOf usualSalts (s .n) (entryOf s (stretch s w i) .entry .body)
+abbrev pub phaseLossKeyAt : Size → List ℕ → ℕ → ℕ
+phaseLossKeyAt s w i = phaseLossKeyOf usualSalts (s .n) (entryOf s (stretch s w i) .entry .body)
 
 -- ---- by the place of the word: weight 0, loss word 1, word key 2, phase-loss key 3
 
@@ -49,7 +48,7 @@ withLoss v e =
             body = record { loss = v; count = e .entry .body .count; coefs = e .entry .body .coefs; rows = e .entry .body .rows };
           };
       wordKey = e .wordKey;
-      phaseKey = e .phaseKey;
+      phaseLossKey = e .phaseLossKey;
     }
 
 unfoldable pub withWord : ℕ → ℕ → Keyed → Keyed
@@ -57,8 +56,3 @@ withWord zero = reweighed keyedWeighed
 withWord (suc zero) = withLoss
 withWord (suc (suc zero)) = withWordKey
 withWord (suc (suc (suc j))) = withPhaseKey
-
--- a stretch x of words became y, which is as long: its entry is what f makes of it
-pub record Became (s : Size) (f : Keyed → Keyed) (x y : List ℕ) : Type 0 where
-  pub long : length y ≡ entryLen s
-  pub entry : entryOf s y ≡ f (entryOf s x)

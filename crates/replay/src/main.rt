@@ -8,17 +8,18 @@ use model::Size;
 
 // What is lent: after word 0 the header's seven words, how many words of the store, and how many bytes of the text.
 fn header_of(state: &[u64; 18]) -> Header {
-    Header {
-        size: Size {
-            n: state[1] as usize,
-            k: state[2] as usize,
-            capacity: state[3] as usize,
-        },
-        count: state[4] as usize,
-        threshold: words::float_of(state[5]),
-        cutoff: words::float_of(state[6]),
-        dirty: state[7] != 0,
-    }
+    let size = Size {
+        n: state[1] as usize,
+        k: state[2] as usize,
+        capacity: state[3] as usize,
+    };
+    answers::header(
+        size,
+        state[4] as usize,
+        words::float_of(state[5]),
+        words::float_of(state[6]),
+        state[7] != 0,
+    )
 }
 
 fn put_header(state: &mut [u64; 18], h: Header) {
@@ -35,40 +36,40 @@ fn put_header(state: &mut [u64; 18], h: Header) {
 // ---- what is told
 
 fn tell_sum(state: &[u64; 18], store: &[u64]) {
-    trial::text(b", header");
-    trial::numbers(state, 1, 8);
-    trial::text(b", digest");
-    trial::number(trial::digest(store));
+    test_support::text(b", header");
+    test_support::numbers(state, 1, 8);
+    test_support::text(b", digest");
+    test_support::number(test_support::digest(store));
 }
 
 fn tell_start(kind: u64, number: u64) {
-    trial::number(kind);
-    trial::text(b" begins");
-    trial::number(number);
+    test_support::number(kind);
+    test_support::text(b" begins");
+    test_support::number(number);
 }
 
 // The words that the call wrote or shows, at most twenty. A sheet's are in the text.
 fn tell_shown(kind: u64, record: &[u64]) {
-    let length = trial::word_at(record, 6);
+    let length = test_support::word_at(record, 6);
     if kind == 13 {
         return;
     }
     if length == 0 {
         return;
     }
-    trial::text(b", shown");
+    test_support::text(b", shown");
     if 20 < length {
-        trial::numbers(record, 7, 27);
+        test_support::numbers(record, 7, 27);
         return;
     }
-    trial::numbers(record, 7, 7 + length as usize);
+    test_support::numbers(record, 7, 7 + length as usize);
 }
 
 fn tell_record(record: &[u64], text: &[u8]) {
-    trial::text(b", record");
-    trial::number(trial::digest(record));
-    trial::text(b", text");
-    trial::number(trial::digest_bytes(text));
+    test_support::text(b", record");
+    test_support::number(test_support::digest(record));
+    test_support::text(b", text");
+    test_support::number(test_support::digest_bytes(text));
 }
 
 // ---- calls
@@ -78,13 +79,13 @@ fn call(state: &mut [u64; 18], store: &mut [u64], text: &mut [u8], item: &[u64; 
     let bytes = text.len();
     let ran = runs::run(header_of(state), store, item, &mut record, text, bytes);
     put_header(state, ran.header);
-    trial::numbers(item, 0, 3);
-    trial::text(b" gives");
-    trial::numbers(&record, 0, 7);
+    test_support::numbers(item, 0, 3);
+    test_support::text(b" gives");
+    test_support::numbers(&record, 0, 7);
     tell_sum(state, store);
     tell_record(&record, text);
     tell_shown(item[0], &record);
-    trial::text(b"\n");
+    test_support::text(b"\n");
 }
 
 // A sum begins, from its size and bounds.
@@ -95,11 +96,11 @@ fn begin_fresh(state: &mut [u64; 18], store: &mut [u64], item: &[u64; 18]) {
         capacity: item[3] as usize,
     };
     let threshold = words::float_of(item[4]);
-    let a = sum::fresh(size, threshold, words::float_of(item[5]), store);
+    let a = fresh::fresh(size, threshold, words::float_of(item[5]), store);
     put_header(state, a.header);
     tell_start(20, a.number);
     tell_sum(state, store);
-    trial::text(b"\n");
+    test_support::text(b"\n");
 }
 
 // .. or from the sheet that the text is.
@@ -108,7 +109,7 @@ fn begin_read(state: &mut [u64; 18], store: &mut [u64], text: &[u8]) {
     put_header(state, a.header);
     tell_start(21, a.number);
     tell_sum(state, store);
-    trial::text(b"\n");
+    test_support::text(b"\n");
 }
 
 // ---- items
@@ -117,13 +118,13 @@ fn begin_read(state: &mut [u64; 18], store: &mut [u64], text: &[u8]) {
 fn change_words(store: &mut [u64], item: &[u64; 18]) {
     let kind = item[0];
     if kind == 22 {
-        trial::put_word(store, item[1] as usize, item[2]);
+        test_support::put_word(store, item[1] as usize, item[2]);
     } else if kind == 23 {
-        trial::fill_words(store, item[1]);
+        test_support::fill_words(store, item[1]);
     } else if kind == 24 {
-        trial::lay_large(store);
+        test_support::lay_large(store);
     } else {
-        trial::lines(store, item[1] as usize, item[2] as usize);
+        test_support::lines(store, item[1] as usize, item[2] as usize);
     }
 }
 
@@ -131,9 +132,9 @@ fn change_words(store: &mut [u64], item: &[u64; 18]) {
 fn change_bytes(text: &mut [u8], item: &[u64; 18]) {
     let kind = item[0];
     if kind == 26 {
-        trial::put_byte(text, item[1] as usize, item[2]);
+        test_support::put_byte(text, item[1] as usize, item[2]);
     } else if kind == 27 {
-        trial::fill_bytes(text, (item[1] % 256) as u8);
+        test_support::fill_bytes(text, (item[1] % 256) as u8);
     } else {
         tell_title((item[1] % 256) as u8);
     }
@@ -141,7 +142,7 @@ fn change_bytes(text: &mut [u8], item: &[u64; 18]) {
 
 fn tell_title(letter: u8) {
     let line = [letter, 10];
-    trial::text(&line);
+    test_support::text(&line);
 }
 
 // Below 20 a call, 20 and 21 a start, then changes.
@@ -180,11 +181,11 @@ fn replay(given: &[u8], store: &mut [u64], text: &mut [u8]) {
     let mut at = 0;
     let mut i: usize = 0;
     while i < 20_000 {
-        at = trial::skip(given, at);
+        at = test_support::skip(given, at);
         if given.len() <= at {
             return;
         }
-        at = trial::read_item(given, at, &mut item);
+        at = test_support::read_item(given, at, &mut item);
         if item[0] == 30 {
             state = item;
         }

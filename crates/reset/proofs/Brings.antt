@@ -1,40 +1,36 @@
 -- The entries that left come back one after the other: those still to come are as they were, and with them what is merged gives the whole. Assumes
 -- nothing.
 use mathlib.Core.Path.{_≡_, refl, sym, ap, ap₂, _∙_}
-use mathlib.Core.Bool.{Bool, true}
 use mathlib.Core.List.{List, [], _∷_, map}
 use Prim.Native.Nat.{ℕ, _+_, _-_, _≤_, _<_}
 use native.Mathlib.Nat.{zero-add, add-zero}
 use native.Mathlib.Numerals.{add-one}
 use native.Mathlib.Omega.{arith}
-use lib.Dec.{leb}
 use lib.Ieee.{Float}
 use lib.ListN.{length, drop, getD, drop-of-length-le}
 use lib.Seq.{drop-cons}
-use borrow.Author.Tests.{leb-true}
-use Rattle.model.specs.Entries.{Keyed, entryLen, entryOf, stretch, listed}
+use Rattle.model.specs.Entries.{Keyed, entryLen, entryOf, stretch}
 use Rattle.model.specs.Keys.{usualSalts}
 use Rattle.model.specs.Store.{Tally, begun, walk, merge, mergeAll, testedAll, howMany, aboveCutoff}
 use Rattle.model.specs.Calls.{engine}
 use Rattle.model.specs.declared.Size.{Size}
-use Rattle.model.proofs.Lists.{every-at}
-use Rattle.model.proofs.Entries.{length-listed, listed-at}
 use Rattle.model.proofs.Groups.{stride-le}
-use Rattle.model.proofs.Packed.{Packed, within}
+use Rattle.model.specs.Sound.{Packed, FewCoefficients}
+use Rattle.model.proofs.Packed.{within}
 use Rattle.places.specs.Places.{picked, Distinct, Apart}
 use Rattle.places.proofs.Arranged.{at-most}
-use Rattle.store.specs.Branch.{countBy, tallyBy}
-use Rattle.store.specs.declared.Fate.{Fate}
-use Rattle.store.specs.declared.Fate.the-variants.{Merged, Stored, Dropped, NoRoom}
-use Rattle.store.specs.declared.Settled.{Settled}
-use Rattle.store.proofs.Walk.{tested-few}
-use Rattle.store.proofs.Merge.{added, merge-adds}
+use Rattle.seeking.proofs.Walk.{tested-few}
+use Rattle.merging.specs.Fates.{countBy, tallyBy}
+use Rattle.merging.specs.declared.Fate.{Fate}
+use Rattle.merging.specs.declared.Fate.the-variants.{Merged, Stored, Dropped, NoRoom}
+use Rattle.merging.specs.declared.Settled.{Settled}
+use Rattle.merging.proofs.Merge.{added, merge-adds}
 use Rattle.seeking.specs.Noted.{seenAt, SeenIn, Noted}
 use Rattle.seeking.proofs.Noting.{given}
 use Rattle.merging.specs.Progress.{Light, after, started}
 use Rattle.merging.specs.declared.Progress.{Progress}
 use Rattle.merging.proofs.Went.{count-after}
-use Rattle.reset.specs.Return.{fewCoefficients, live, liveAt, Returned, tallyOn, Brought}
+use Rattle.reset.specs.Return.{live, liveAt, Returned, tallyOn, Brought}
 use Rattle.reset.proofs.Returning.{picked-long, picked-at}
 
 -- ---- entries picked by their places
@@ -123,13 +119,8 @@ module _ (s : Size) (threshold cutoff : Float) (q stay total : ℕ) (order₀ le
     long-left : out ≤ length left
     long-left = omega (arith, at-most (t .packed))
 
-    pub few-there : Packed s total w₀ → fewCoefficients s (listed s total w₀) ≡ true → entryOf s (stretch s w place) .entry .body .count ≤ s .k
-    few-there g f =
-        let fits : Keyed → Bool = λ e. leb (e .entry .body .count) (s .k) in
-        let d = entryOf s [] in
-        let e : getD (listed s total w₀) place d ≡ entryOf s (stretch s w place) =
-        listed-at s total place w₀ d (t₀ .below j h) ∙ sym (t .still j (omega arith) h) in
-        rw e at (leb-true (getD (listed s total w₀) place d .entry .body .count) (s .k) (every-at fits (listed s total w₀) place d f (omega (arith, length-listed s total w₀, t₀ .below j h))))
+    pub few-there : FewCoefficients s total w₀ → entryOf s (stretch s w place) .entry .body .count ≤ s .k
+    few-there f = rw (t .still j (omega arith) h) (f place (t₀ .below j h))
 
     pub room-there : p .count < total
     room-there = omega (arith, t .few)

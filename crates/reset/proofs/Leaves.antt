@@ -1,6 +1,6 @@
 -- What the reset leaves is what the definition says. Assumes nothing.
 use mathlib.Core.Path.{_≡_, sym, ap, ap₂, _∙_}
-use mathlib.Core.Bool.{true, false, cond}
+use mathlib.Core.Bool.{false, cond}
 use mathlib.Core.List.{List, map}
 use Prim.Native.Nat.{ℕ, _-_}
 use lib.Ieee.{Float}
@@ -9,17 +9,17 @@ use Rattle.model.specs.Keys.{usualSalts}
 use Rattle.model.specs.Store.{Tally, begun, mergeAll, mergedSplit, testedAll, howMany, aboveCutoff}
 use Rattle.model.specs.Reset.{resetSplit, resetTally}
 use Rattle.model.specs.Sum.{done}
-use Rattle.model.specs.Calls.{Lent, reset, branching, act, kindOf, rebuiltEntries, rebuilt, sumOf, engine, dirtyAfter, wordsAfter, splitBy, testedBy, gave, changedTo, headerWith, accepted, left}
+use Rattle.model.specs.Calls.{Lent, reset, act, kindOf, rebuiltEntries, rebuilt, worked, acted, engine, dirtyAfter, wordsAfter, splitAs, splitIn, splitBy, testedBy, gave, changedTo, headerWith, accepted, left}
 use Rattle.model.specs.declared.Header.{Header}
 use Rattle.model.specs.declared.Size.{Size}
 use Rattle.model.proofs.Entries.{length-listed}
-use Rattle.model.proofs.Packed.{Packed, packed-is}
+use Rattle.model.specs.Sound.{Packed}
+use Rattle.model.proofs.Packed.{packed-is}
 use Rattle.places.specs.Leaving.{leaving}
 use Rattle.places.specs.Places.{picked, Left}
 use Rattle.merging.specs.Progress.{tallyOf}
 use Rattle.merging.specs.declared.Progress.{Progress}
-use Rattle.reset.specs.Return.{fewCoefficients, live, lostOf, Brought, Merged, resetBy}
-use Rattle.reset.proofs.Coefficients.{ready-few}
+use Rattle.reset.specs.Return.{live, lostOf, Brought, Merged}
 
 -- ---- the lost entries merged
 
@@ -66,10 +66,6 @@ module _ (x : Lent) (q : ℕ) where
   readied = cond (hd .dirty) (rebuiltEntries (size .n) (given x)) (given x)
 
   module _ (w : List ℕ) (e : listed size (hd .count) w ≡ readied) where
-    -- no entry gains coefficients when keys are rebuilt
-    pub still-few : fewCoefficients size (given x) ≡ true → fewCoefficients size (listed size (hd .count) w) ≡ true
-    still-few h = ap (fewCoefficients size) e ∙ ready-few size (hd .dirty) (given x) ∙ h
-
     module _ (p : Progress) (v : List ℕ) (m : Merged size (hd .threshold) (hd .cutoff) (leaving q (listed size (hd .count) w) .stay) (lostOf size q (listed size (hd .count) w)) p v) where
       pub tally-is : resetTally (engine size (hd .threshold)) (hd .cutoff) q readied ≡ tallyOf size p v
       unfolding resetTally mergedSplit resetSplit
@@ -82,9 +78,9 @@ module _ (x : Lent) (q : ℕ) where
           ap (λ (l : List Keyed). howMany (testedAll usualSalts size (hd .threshold) (aboveCutoff (hd .cutoff)) (resetSplit (engine size (hd .threshold)) q l .branches) (begun (resetSplit (engine size (hd .threshold)) q l .stay)))) (sym e)
           ∙ sym (m .compared)
 
-      pub was-reset : gave (accepted (headerWith hd (p .count) false) (p .compared) (changedTo (tallyOf size p v))) v ≡ resetBy q x
-      unfolding left act rebuilt kindOf dirtyAfter wordsAfter testedBy splitBy accepted
+      pub was-reset : gave (accepted (headerWith hd (p .count) false) (p .compared) (changedTo (tallyOf size p v))) v ≡ acted (reset q) x
+      unfolding left act rebuilt kindOf dirtyAfter wordsAfter testedBy splitBy splitAs splitIn accepted
       was-reset =
           sym
-          (ap (λ (z : Tally Keyed). left (reset q) x (rebuilt branching (hd .dirty) (sumOf x)) (done (changedTo z))) tally-is
+          (ap (λ (z : Tally Keyed). left (reset q) x (worked (reset q) x) (done (changedTo z))) tally-is
           ∙ rw (length-listed size (p .count) v, ← packed-is size (p .count) v (m .packed), tested-are))

@@ -1,5 +1,5 @@
 pub mod Brings
-pub mod Coefficients
 pub mod Leaves
+pub mod Livened
 pub mod Returning
 pub mod Revived

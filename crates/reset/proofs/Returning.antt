@@ -21,19 +21,21 @@ use Rattle.model.specs.declared.Found.the-variants.{At, Nothing}
 use Rattle.model.proofs.Lists.{getD-mapped}
 use Rattle.model.proofs.Groups.{stride-le}
 use Rattle.model.proofs.Entries.{length-listed, listed-at}
-use Rattle.model.proofs.Packed.{Packed, within}
+use Rattle.model.specs.Sound.{Packed}
+use Rattle.model.proofs.Packed.{within}
 use Rattle.places.specs.Places.{picked, Distinct}
 use Rattle.places.proofs.Inverse.{either}
 use Rattle.places.proofs.Distinct.{each-more, one-more}
 use Rattle.places.proofs.Arranged.{at-most}
 use Rattle.places.proofs.Walked.{entryAt}
-use Rattle.store.specs.Branch.{Searched, countBy, tallyBy}
-use Rattle.store.specs.declared.Fate.{Fate}
-use Rattle.store.specs.declared.Fate.the-variants.{Merged, Stored, Dropped, NoRoom}
-use Rattle.store.specs.declared.Search.{Search}
-use Rattle.store.proofs.Walk.{found-below}
+use Rattle.seeking.specs.Walk.{Searched}
+use Rattle.seeking.specs.declared.Search.{Search}
+use Rattle.seeking.proofs.Walk.{found-below}
+use Rattle.merging.specs.Fates.{countBy, tallyBy}
+use Rattle.merging.specs.declared.Fate.{Fate}
+use Rattle.merging.specs.declared.Fate.the-variants.{Merged, Stored, Dropped, NoRoom}
 use Rattle.seeking.specs.Noted.{seenAt, SeenIn, gathered, slotOf, Lowered, Noted}
-use Rattle.store.proofs.Merge.{altered-is}
+use Rattle.merging.proofs.Merge.{altered-is}
 use Rattle.seeking.proofs.Noting.{given, length-gathered, gathered-at, SameKeys, still-noted, one-noted}
 use Rattle.reset.specs.Return.{liveAt, Returned}
 
@@ -134,7 +136,7 @@ never z = omega arith
 -- ---- entry i comes back, live again at q
 
 -- it was searched for among the `count` listed entries
-pub record Sought (s : Size) (total count : ℕ) (threshold : Float) (i q : ℕ) (order w keys firsts : List ℕ) (r : Search) : Type 0 where
+pub record Looked (s : Size) (total count : ℕ) (threshold : Float) (i q : ℕ) (order w keys firsts : List ℕ) (r : Search) : Type 0 where
   pub packed : Packed s total w
   pub long : length order ≡ 256
   pub once : Distinct total count order
@@ -150,7 +152,7 @@ listed-in {s} {total} {count} {order} {w} p h long d u b =
     rw (given order u u 0 (omega (arith, at-most p)))
     (omega (arith, stride-le (entryLen s) (getD order u 0) total (d .below u b), within s total w p))
 
-module _ {s : Size} {total count : ℕ} {threshold : Float} {i q : ℕ} {order w keys firsts : List ℕ} {r : Search} (c : Sought s total count threshold i q order w keys firsts r) where
+module _ {s : Size} {total count : ℕ} {threshold : Float} {i q : ℕ} {order w keys firsts : List ℕ} {r : Search} (c : Looked s total count threshold i q order w keys firsts r) where
   abbrev branch : Keyed
   branch = liveAt s q w i
 

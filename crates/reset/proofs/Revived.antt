@@ -8,38 +8,39 @@ use lib.Bits.{bitXor}
 use lib.ListN.{length, getD, set}
 use lib.Seq.{getD-take, getD-drop}
 use Rattle.model.specs.Floats.{float, bits, plus}
-use Rattle.model.specs.Entries.{entryLen, wordsOf, entryOf, stretch, listed}
-use Rattle.model.specs.Keys.{usualSalts, rowMask, storedKey}
+use Rattle.model.specs.Entries.{entryLen, wordsOf, entryOf, stretch, listed, withStretch}
+use Rattle.model.specs.Keys.{usualSalts, storedKey}
 use Rattle.model.specs.Changes.{masksOf, changedKeyed}
 use Rattle.model.specs.Store.{keyedWeighed, reweighed, gained}
 use Rattle.model.specs.declared.BranchMutation.the-variants.{Loss as loss}
-use Rattle.model.specs.declared.Salts.{Salts}
 use Rattle.model.specs.declared.Size.{Size}
 use Rattle.model.proofs.Xor.{xor-assoc}
-use Rattle.model.proofs.Groups.{lent}
 use Rattle.model.proofs.Entries.{length-stretch}
-use Rattle.model.proofs.Packed.{Fits, entry-words, words-length, Packed, within, set-listed, set-packed, lent-listed, lent-packed}
-use Rattle.store.proofs.Merge.{weight-set}
+use Rattle.model.specs.Sound.{Packed}
+use Rattle.model.proofs.Packed.{Fits, entry-words, words-length, within, set-listed, set-packed, lent-listed, lent-packed}
+use Rattle.changes.specs.Changes.{lossChange}
+use Rattle.changes.specs.declared.Change.{Change}
+use Rattle.merging.proofs.Merge.{weight-set}
 use Rattle.branch.proofs.Words.{entry-fits}
 use Rattle.branch.proofs.Made.{changed-fits}
-use Rattle.rebuild.proofs.Turns.{part}
+use Rattle.entries.proofs.Slots.{part}
 use Rattle.reset.specs.Return.{live, liveAt}
 
 -- ---- the key
 
 -- the mask of a loss does not go by rows
-pub loss-delta : (n q : ℕ) (rows : List ℕ) {salts : Salts} {d : ℕ} → salts ≡ usualSalts → d ≡ rowMask q (salts .loss) → d ≡ masksOf usualSalts n (loss q) rows
+pub loss-delta : (n q : ℕ) (rows : List ℕ) {c : Change} → c ≡ lossChange q → c .delta ≡ masksOf usualSalts n (loss q) rows
 unfolding masksOf
-loss-delta n q rows e d = d ∙ ap (λ (t : Salts). rowMask q (t .loss)) e
+loss-delta n q rows e = ap (λ (c : Change). c .delta) e
 
 -- e are the words of the entry at place i
-pub live-key-is : (s : Size) (q : ℕ) (w : List ℕ) (i : ℕ) {e : List ℕ} {salts : Salts} {d : ℕ} → e ≡ stretch s w i → salts ≡ usualSalts → d ≡ rowMask q (salts .loss)
-    → bitXor (bitXor (getD e 2 0) (getD e 3 0)) d ≡ storedKey (liveAt s q w i)
+pub live-key-is : (s : Size) (q : ℕ) (w : List ℕ) (i : ℕ) {e : List ℕ} {c : Change} → e ≡ stretch s w i → c ≡ lossChange q
+    → bitXor (bitXor (getD e 2 0) (getD e 3 0)) (c .delta) ≡ storedKey (liveAt s q w i)
 unfolding storedKey changedKeyed entryOf
-live-key-is s q w i p t m =
+live-key-is s q w i p m =
     let b = entryOf s (stretch s w i) in
-    ap₂ (λ (v : List ℕ) (d : ℕ). bitXor (bitXor (getD v 2 0) (getD v 3 0)) d) p (loss-delta (s .n) q (b .entry .body .rows) t m)
-    ∙ xor-assoc (b .wordKey) (b .phaseKey) (masksOf usualSalts (s .n) (loss q) (b .entry .body .rows))
+    ap₂ (λ (v : List ℕ) (d : ℕ). bitXor (bitXor (getD v 2 0) (getD v 3 0)) d) p (loss-delta (s .n) q (b .entry .body .rows) m)
+    ∙ xor-assoc (b .wordKey) (b .phaseLossKey) (masksOf usualSalts (s .n) (loss q) (b .entry .body .rows))
 
 -- ---- one entry changes
 
@@ -52,7 +53,7 @@ module _ (s : Size) (count : ℕ) (w : List ℕ) (p : Packed s count w) (len : �
 
   -- live again: its stretch, lent, comes back as the words x
   pub revived : (q : ℕ) (x : List ℕ) → x ≡ wordsOf (live s q (entryOf s (part len i w)))
-      → Packed s count (lent len i w x) × (listed s count (lent len i w x) ≡ set (listed s count w) i (liveAt s q w i))
+      → Packed s count (withStretch len i w x) × (listed s count (withStretch len i w x) ≡ set (listed s count w) i (liveAt s q w i))
   revived q x m =
       let b = liveAt s q w i in
       let fits : Fits s b = changed-fits usualSalts s (loss q) (entryOf s (stretch s w i)) (entry-fits s (stretch s w i) at-length) in

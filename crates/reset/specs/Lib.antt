@@ -1,1 +1,2 @@
 pub mod Return
+pub mod Tests

@@ -2,32 +2,28 @@
 -- Assumes nothing.
 use Prim.Native.Nat.{ℕ, _≤_, _<_}
 use mathlib.Core.Path.{_≡_}
-use mathlib.Core.Bool.{Bool}
 use mathlib.Core.List.{List, map}
-use lib.Dec.{leb}
 use lib.Ieee.{Float}
 use lib.ListN.{length, getD}
-use Rattle.model.specs.Lists.{every}
 use Rattle.model.specs.Entries.{Keyed, entryOf, stretch}
-use Rattle.model.specs.Keys.{usualSalts}
+use Rattle.model.specs.Keys.{usualSalts, storedKey}
 use Rattle.model.specs.Changes.{changedKeyed}
 use Rattle.model.specs.Store.{Tally, begun, walk, merge, mergeAll, testedAll, howMany, aboveCutoff}
-use Rattle.model.specs.Calls.{Lent, Left, engine, reset, branching, sumOf, rebuilt, act, left}
+use Rattle.model.specs.Calls.{engine}
 use Rattle.model.specs.declared.BranchMutation.the-variants.{Loss as loss}
 use Rattle.model.specs.declared.Size.{Size}
-use Rattle.model.proofs.Packed.{Packed}
+use Rattle.model.specs.Sound.{Packed}
 use Rattle.places.specs.Leaving.{leaving}
 use Rattle.places.specs.Places.{picked, Distinct}
-use Rattle.store.specs.Branch.{countBy, tallyBy}
-use Rattle.store.specs.declared.Fate.the-variants.{NoRoom}
-use Rattle.store.specs.declared.Settled.{Settled}
+use Rattle.changes.specs.Changes.{lossChange}
 use Rattle.seeking.specs.Noted.{seenAt, Noted}
+use Rattle.seeking.specs.declared.Sought.{Sought}
+use Rattle.merging.specs.Fates.{countBy, tallyBy}
 use Rattle.merging.specs.Progress.{tallyOf}
+use Rattle.merging.specs.declared.Fate.the-variants.{NoRoom}
 use Rattle.merging.specs.declared.Progress.{Progress}
-
--- no entry has more coefficients than K
-abbrev pub fewCoefficients : Size → List Keyed → Bool
-fewCoefficients s es = every (λ e. leb (e .entry .body .count) (s .k)) es
+use Rattle.merging.specs.declared.Settled.{Settled}
+use Rattle.reset.specs.declared.LostEntry.{LostEntry}
 
 -- an entry that was lost at q, live again
 abbrev pub live : Size → ℕ → Keyed → Keyed
@@ -36,6 +32,11 @@ live s q e = changedKeyed usualSalts (s .n) (loss q) e
 -- the one that stands at place i
 abbrev pub liveAt : Size → ℕ → List ℕ → ℕ → Keyed
 liveAt s q w i = live s q (entryOf s (stretch s w i))
+
+-- what is sought once an entry has left: its live form
+abbrev pub soughtLive : Size → (w : List ℕ) → LostEntry → Sought
+soughtLive s w e =
+    record { origin = e .place; mutation = loss (e .qubit); change = lossChange (e .qubit); key = storedKey (liveAt s (e .qubit) w (e .place)) }
 
 -- The branch b, the live form of the entry at place i, was merged into the `count` entries at the places of `order`, of `total` in the store w.
 pub record Returned (s : Size) (total count : ℕ) (threshold cutoff : Float) (i : ℕ) (b : Keyed) (order w order′ w′ keys firsts : List ℕ) (r : Settled) : Type 0 where
@@ -73,7 +74,3 @@ pub record Merged (s : Size) (threshold cutoff : Float) (es bs : List Keyed) (p 
 -- the branches of the entries es that are lost at q: these, live
 abbrev pub lostOf : Size → ℕ → List Keyed → List Keyed
 lostOf s q es = map (live s q) (leaving q es .branches)
-
--- what the definition of the reset leaves, once no test applies
-abbrev pub resetBy : ℕ → Lent → Left
-resetBy q x = let m = rebuilt branching (x .header .dirty) (sumOf x) in left (reset q) x m (act engine (reset q) m)

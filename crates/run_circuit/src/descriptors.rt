@@ -32,12 +32,12 @@ pub fn are_open() -> bool {
     let no_input = is_closed(STDIN_FILENO);
     let no_output = is_closed(STDOUT_FILENO);
     if no_input {
-        rows::say(
+        printing::say(
             b"run_circuit: standard input is closed; nothing was run (</dev/null gives none)\n",
         );
     }
     if no_output {
-        rows::say(
+        printing::say(
             b"run_circuit: standard output is closed; nothing was run (>/dev/null throws it away)\n",
         );
     }

@@ -1,10 +1,10 @@
 // Runs a circuit, in a subset of Stim's circuit language, and prints the weight sheet, the sampling table or a trace.
+mod both_passes;
 mod descriptors;
 mod help;
 mod outputs;
-mod passes;
 
-use passes::Setup;
+use both_passes::Setup;
 ghost use Prim.Native.Nat.{_≤_};
 
 // How a run ends.
@@ -33,7 +33,7 @@ fn run_in(from: i32, name: &[u8], folder: &[u8], s: Setup) -> bool {
     if !source.ok {
         return false;
     }
-    passes::run(source, name, &mut bytes, s)
+    both_passes::run(source, name, &mut bytes, s)
 }
 
 // .. to the folder that an option names, or to /tmp.
@@ -45,7 +45,7 @@ fn run_from(from: i32, name: &[u8], s: Setup) -> Status {
     let mut folder = io::buffer();
     let n = options::value_of(place, &mut folder);
     if n == 0 {
-        rows::say(b"run_circuit: --tmpdir: the name of a folder was expected\n");
+        printing::say(b"run_circuit: --tmpdir: the name of a folder was expected\n");
         return Status::Usage;
     }
     status_of(run_in(from, name, &folder[..n], s))

@@ -5,13 +5,13 @@ use model::Header;
 use second_pass::Run;
 
 pub fn tell_refused(what: &[u8], number: u64) {
-    rows::say(b"run_circuit: ");
-    rows::say(what);
-    rows::say(b" was refused with ");
-    rows::say_number(number);
-    rows::say(b": ");
+    printing::say(b"run_circuit: ");
+    printing::say(what);
+    printing::say(b" was refused with ");
+    printing::say_number(number);
+    printing::say(b": ");
     messages::tell_number(number);
-    rows::say(b"\n");
+    printing::say(b"\n");
 }
 
 // Whether something was written to standard output; else it is said why not.
@@ -61,13 +61,13 @@ fn weight_at(store: &[u64], h: Header, place: u64) -> u64 {
 }
 
 fn write_entry(place: u64, weight: u64, total: u64) -> bool {
-    let mut row = rows::row();
-    let first = rows::put_number(&mut row, 0, place, 7);
-    let second = rows::put_float(&mut row, first, words::float_of(weight));
-    let third = rows::put_float(&mut row, second, words::float_of(total));
-    let fourth = rows::put_bits(&mut row, third, weight);
-    let end = rows::put_bits(&mut row, fourth, total);
-    rows::write(STDOUT_FILENO, &mut row, end)
+    let mut row = printing::row();
+    let first = printing::put_number(&mut row, 0, place, 7);
+    let second = printing::put_float(&mut row, first, words::float_of(weight));
+    let third = printing::put_float(&mut row, second, words::float_of(total));
+    let fourth = printing::put_bits(&mut row, third, weight);
+    let end = printing::put_bits(&mut row, fourth, total);
+    printing::write(STDOUT_FILENO, &mut row, end)
 }
 
 fn write_entries(h: Header, store: &[u64], table: &[u64], count: usize) -> bool {
@@ -113,18 +113,18 @@ pub fn say_if_empty(h: Header) -> bool {
 }
 
 fn say_count(name: &[u8], v: u64) -> bool {
-    let mut row = rows::row();
-    let at = rows::put_left(&mut row, 0, name, 10);
-    let end = rows::put_digits(&mut row, at, v);
-    rows::write(STDERR_FILENO, &mut row, rows::after(at, end, 1))
+    let mut row = printing::row();
+    let at = printing::put_left(&mut row, 0, name, 10);
+    let end = printing::put_digits(&mut row, at, v);
+    printing::write(STDERR_FILENO, &mut row, printing::after(at, end, 1))
 }
 
 fn say_lost(x: f64) -> bool {
-    let mut row = rows::row();
-    let at = rows::put_left(&mut row, 0, b"lost", 10);
-    let text = rows::put_float(&mut row, at, x);
-    let end = rows::put_left(&mut row, text, b"of the initial weight", 21);
-    rows::write(STDERR_FILENO, &mut row, end)
+    let mut row = printing::row();
+    let at = printing::put_left(&mut row, 0, b"lost", 10);
+    let text = printing::put_float(&mut row, at, x);
+    let end = printing::put_left(&mut row, text, b"of the initial weight", 21);
+    printing::write(STDERR_FILENO, &mut row, end)
 }
 
 pub fn say_summary(r: Run) -> bool {

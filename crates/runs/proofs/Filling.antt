@@ -8,7 +8,7 @@ use native.Mathlib.Omega.{arith}
 use lib.ListN.{length, take, drop, getD, take-append-drop, drop-of-length-le}
 use lib.Seq.{drop-cons, drop-drop}
 use borrow.Rule.Slice.PartMut.{putMid, midOf, drop-put, mid-len}
-use Rattle.model.specs.Calls.{Call, Lent, Left, step, over}
+use Rattle.model.specs.Calls.{Call, Lent, Left, step, overlaid}
 use Rattle.reader.proofs.Filled.{Filled, more}
 use Rattle.model.specs.Demand3.{next, afterCalls}
 use Rattle.runs.specs.Runs.{filled, Came}
@@ -49,7 +49,7 @@ module _ (len : ℕ) (f : Call → Left → List ℕ) (cs : List Call) where
 
   -- the stretch of call i came back as v
   pub filling-next : (x₀ x y : Lent) (w₀ w v : List ℕ) (i : ℕ) (c : Call) → i < length cs → getD cs i c ≡ c → y ≡ next (step c x) → i * len + len ≤ length w
-      → length v ≡ length (midOf (i * len) (i * len + len - i * len) w) → v ≡ over (f c (step c x)) (midOf (i * len) (i * len + len - i * len) w)
+      → length v ≡ length (midOf (i * len) (i * len + len - i * len) w) → v ≡ overlaid (f c (step c x)) (midOf (i * len) (i * len + len - i * len) w)
       → Filling x₀ w₀ i x w → Filling x₀ w₀ (i + 1) y (putMid (i * len) (i * len + len - i * len) w v)
   unfolding filled
   filling-next x₀ x y w₀ w v i c h e n b l o r =
@@ -61,7 +61,7 @@ module _ (len : ℕ) (f : Call → Left → List ℕ) (cs : List Call) where
       let rest : drop end (putMid at (end - at) w v) ≡ drop end w = drop-put at end w v (omega arith) b (l ∙ mid-len at end w b) in
       let go : filled len f (drop i cs) x (drop at w) ≡ v ++ filled len f (drop (i + 1) cs) y (drop end w) =
       ap (λ (d : List Call). filled len f d x (drop at w)) (calls-left cs i x h e n)
-      ∙ ap₂ (λ (u : List ℕ) (t : List ℕ). u ++ t) (sym (o ∙ ap (λ (m : ℕ). over (f c (step c x)) (take m (drop at w))) k))
+      ∙ ap₂ (λ (u : List ℕ) (t : List ℕ). u ++ t) (sym (o ∙ ap (λ (m : ℕ). overlaid (f c (step c x)) (take m (drop at w))) k))
       (ap₂ (λ (z : Lent) (t : List ℕ). filled len f (drop (i + 1) cs) z t) (sym n) (drop-drop len at w)) in
       record {
         long = put .long ∙ r .long;

@@ -9,13 +9,14 @@ use borrow.Author.Tests.{eq-eqb, ne-eqb}
 use Rattle.model.specs.Entries.{Entry}
 use Rattle.model.specs.Sum.{Result, done, refused, mapResult}
 use Rattle.model.specs.Sheet.{Sheet}
-use Rattle.model.specs.Calls.{Call, Sum, Lent, held, Left, gave, plainAnswer, zeroHeader, Start, begins, leftBy, start}
+use Rattle.model.specs.Calls.{Call, Sum, Lent, Left, gave, plainAnswer, Start, begins, leftBy, start}
 use Rattle.model.specs.Keyless.{sheetSum, keylessStart}
 use Rattle.model.specs.declared.Answer.{Answer}
 use Rattle.perform.specs.Records.{recordWords}
 use Rattle.model.specs.Demand3.{next, flagBegun, flagAfter, Agree, Begins, Demand3}
 use Rattle.model.proofs.Demand3.{demand-3}
-use Rattle.runs.specs.Runs.{groupsIn, callsIn, fits, Came, untouched, ranAll, ranAfter, ranFrom}
+use Rattle.runs.specs.Runs.{groupsIn, callsIn, fits, Came, came, untouched, unfit, ranAll, ranAfter, ranFrom}
+use Rattle.runs.specs.declared.Ran.{Ran}
 use Rattle.runs.specs.Promise.{Agreed, Begun, PromiseIf, Promise}
 use Rattle.runs.proofs.Fitting.{Fitting, fitting, groups-many}
 use Rattle.runs.proofs.Reading.{all-shown, all-compared}
@@ -31,22 +32,13 @@ module _ (bytes : ℕ) (cs : List Call) (l : Left) (log text : List ℕ) where
   unfolding ranAfter
   after-refused e = rw (ne-eqb (l .answer .number) 0 e)
 
--- ---- one law for each answer of a run from a start on
+-- ---- a run from a start on
 
 module _ (bytes : ℕ) (calls : List ℕ) (b : Start) (w log text : List ℕ) where
   abbrev cs : List Call
   cs = callsIn bytes calls
 
-  pub ran-11 : fits bytes calls (length log) (length text) ≡ false → untouched 11 (held zeroHeader w) log text ≡ ranFrom bytes calls b w log text
-  unfolding ranFrom
-  ran-11 e = rw e
-
-  pub ran-on : {o : Came} (a : Answer) (v : List ℕ) → fits bytes calls (length log) (length text) ≡ true → gave a v ≡ start b w → o ≡ ranAfter bytes cs (gave a v) log text
-      → o ≡ ranFrom bytes calls b w log text
-  unfolding ranFrom
-  ran-on a v e s p = rw e (p ∙ ap (λ (l : Left). ranAfter bytes cs l log text) s)
-
-  -- ---- the promise
+  -- the promise
 
   -- what agrees of the definitions agrees of what came back
   agreed : (m : Sum Entry) (x : Lent) → Fitting bytes calls (length log) (length text) → x .header .dirty ≡ flagBegun b → Agree cs x m → Agreed bytes cs m (flagBegun b) (ranAll bytes cs x log text)
@@ -80,11 +72,24 @@ module _ (bytes : ℕ) (calls : List ℕ) (b : Start) (w log text : List ℕ) wh
   unfolding Promise ranFrom PromiseIf keylessStart start Demand3
   promised {o} p = go (fits bytes calls (length log) (length text)) refl p
     where
-      go : (f : Bool) → fits bytes calls (length log) (length text) ≡ f → o ≡ cond f (ranAfter bytes cs (start b w) log text) (untouched 11 (held zeroHeader w) log text)
+      go : (f : Bool) → fits bytes calls (length log) (length text) ≡ f → o ≡ cond f (ranAfter bytes cs (start b w) log text) (came unfit w log text)
           → PromiseIf f bytes cs b w log text o
       go false e q = record { not-0 = λ z. omega arith; all = q }
       go true e q = begun (begins b (length w)) (fitting bytes calls (length log) (length text) e) refl (demand-3 b w) q
 
-  -- both clauses of a contract
-  pub ran : {o : Came} → o ≡ ranFrom bytes calls b w log text → (o ≡ ranFrom bytes calls b w log text) × Promise bytes calls b w log text o
-  ran p = (p, promised p)
+  -- ---- both clauses of a contract, by one law for each answer
+
+  abbrev Both : Came → Type 0
+  Both o = (o ≡ ranFrom bytes calls b w log text) × Promise bytes calls b w log text o
+
+  both : {o : Came} → o ≡ ranFrom bytes calls b w log text → Both o
+  both p = (p, promised p)
+
+  pub ran-unfit : {r : Ran} → fits bytes calls (length log) (length text) ≡ false → r ≡ unfit → Both (came r w log text)
+  unfolding ranFrom
+  ran-unfit e p = both (rw e (ap (λ (r : Ran). came r w log text) p))
+
+  pub ran-on : {o : Came} (a : Answer) (v : List ℕ) → fits bytes calls (length log) (length text) ≡ true → gave a v ≡ start b w → o ≡ ranAfter bytes cs (gave a v) log text
+      → Both o
+  unfolding ranFrom
+  ran-on a v e s p = both (rw e (p ∙ ap (λ (l : Left). ranAfter bytes cs l log text) s))

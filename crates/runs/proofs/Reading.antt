@@ -8,7 +8,7 @@ use native.Mathlib.Omega.{arith}
 use lib.Dec.{eqb}
 use lib.ListN.{length, take, drop, getD, length-append, length-drop}
 use lib.Seq.{take-at, drop-at, length-take-le}
-use Rattle.model.specs.Calls.{Call, noise, reset, gate, truncate, normalise, table, pick, sheet, view, Lent, Left, step, over}
+use Rattle.model.specs.Calls.{Call, noise, reset, gate, truncate, normalise, table, pick, sheet, view, Form, asWords, asBytes, asEntry, formOf, kindOf, Lent, Left, step, overlaid}
 use Rattle.perform.specs.Encoding.{shownWords, kindIn, callBy, callOf}
 use Rattle.perform.specs.Records.{recordWords, numbers, inRecord, inText, recordOf, textOf}
 use Rattle.perform.proofs.Encoded.{room-small}
@@ -20,35 +20,30 @@ use Rattle.runs.specs.Promise.{outputIn, shownIn, readShown, readCompare
 -- ---- one stretch of `len` words, written over, and what follows it
 
 module _ (len : ℕ) (o w r : List ℕ) (h : length o ≤ len) (g : len ≤ length w) where
-  stretch-long : length (over o (take len w)) ≡ len
+  stretch-long : length (overlaid o (take len w)) ≡ len
   stretch-long =
       length-append o (drop (length o) (take len w)) ∙ (omega (arith, length-drop (length o) (take len w), length-take-le len w g))
 
-  first-is : take len (over o (take len w) ++ r) ≡ over o (take len w)
-  first-is = take-at (over o (take len w)) r len stretch-long
+  first-is : take len (overlaid o (take len w) ++ r) ≡ overlaid o (take len w)
+  first-is = take-at (overlaid o (take len w)) r len stretch-long
 
-  rest-is : drop len (over o (take len w) ++ r) ≡ r
-  rest-is = drop-at (over o (take len w)) r len stretch-long
+  rest-is : drop len (overlaid o (take len w) ++ r) ≡ r
+  rest-is = drop-at (overlaid o (take len w)) r len stretch-long
 
 -- ---- one call
 
 -- its output, as many words as its length says
-output-read : (c : Call) (l : Left) (r t : List ℕ) → l .answer .length ≡ length (l .output) → outputIn c (l .answer .length) (over (recordOf c l) r) (over (textOf c l) t) ≡ l .output
+output-as : (f : Form) (l : Left) (r t : List ℕ) → l .answer .length ≡ length (l .output)
+    → outputIn f (l .answer .length) (overlaid (numbers (l .answer) ++ inRecord f (l .output)) r) (overlaid (inText f (l .output)) t) ≡ l .output
 unfolding outputIn inRecord inText
-output-read (noise c) l r t e = take-at (l .output) _ (l .answer .length) (sym e)
-output-read (reset q) l r t e = take-at (l .output) _ (l .answer .length) (sym e)
-output-read (gate g) l r t e = take-at (l .output) _ (l .answer .length) (sym e)
-output-read truncate l r t e = take-at (l .output) _ (l .answer .length) (sym e)
-output-read normalise l r t e = take-at (l .output) _ (l .answer .length) (sym e)
-output-read (table room) l r t e = take-at (l .output) _ (l .answer .length) (sym e)
-output-read (pick draw) l r t e = take-at (l .output) _ (l .answer .length) (sym e)
-output-read (sheet room) l r t e = take-at (l .output) _ (l .answer .length) (sym e)
-output-read (view place) l r t e = take-at (l .output) _ (l .answer .length) (sym e)
+output-as asWords l r t e = take-at (l .output) _ (l .answer .length) (sym e)
+output-as asBytes l r t e = take-at (l .output) _ (l .answer .length) (sym e)
+output-as asEntry l r t e = take-at (l .output) _ (l .answer .length) (sym e)
 
-shown-read : (c : Call) (x : Lent) (r t : List ℕ) → shownIn c (over (recordOf c (step c x)) r) (over (textOf c (step c x)) t) ≡ shownBy c (step c x)
+shown-read : (c : Call) (x : Lent) (r t : List ℕ) → shownIn c (overlaid (recordOf c (step c x)) r) (overlaid (textOf c (step c x)) t) ≡ shownBy c (step c x)
 shown-read c x r t =
     let l = step c x in
-    ap (λ (o : List ℕ). shownBy c (record { answer = l .answer; words = l .words; output = o })) (output-read c l r t (length-is c x))
+    ap (λ (o : List ℕ). shownBy c (record { answer = l .answer; words = l .words; output = o })) (output-as (formOf (kindOf c)) l r t (length-is c x))
 
 -- ---- every call that words say has room for what it shows
 
@@ -58,15 +53,15 @@ record Roomy (bytes : ℕ) (c : Call) : Type 0 where
 
 module _ (bytes : ℕ) where
   -- one that shows words
-  words-roomy : (c : Call) → roomFor c ≤ shownWords → ((o : List ℕ) → inRecord c o ≡ o) → ((o : List ℕ) → inText c o ≡ []) → Roomy bytes c
+  words-roomy : (c : Call) → roomFor c ≤ shownWords → ((o : List ℕ) → inRecord (formOf (kindOf c)) o ≡ o) → ((o : List ℕ) → inText (formOf (kindOf c)) o ≡ []) → Roomy bytes c
   words-roomy c h r t =
       record {
-        in-record = λ x. omega (arith, length-append (numbers (step c x .answer)) (inRecord c (step c x .output)), ap length (r (step c x .output)), output-fits x c);
+        in-record = λ x. omega (arith, length-append (numbers (step c x .answer)) (inRecord (formOf (kindOf c)) (step c x .output)), ap length (r (step c x .output)), output-fits x c);
         in-text = λ x. omega (arith, ap length (t (step c x .output)));
       }
 
   sheet-roomy : Roomy bytes (sheet bytes)
-  unfolding inRecord inText roomFor
+  unfolding inRecord inText formOf kindOf roomFor
   sheet-roomy = record { in-record = λ x. omega arith; in-text = λ x. output-fits x (sheet bytes) }
 
   either : (b : Bool) {c d : Call} → Roomy bytes c → Roomy bytes d → Roomy bytes (cond b c d)
@@ -74,7 +69,7 @@ module _ (bytes : ℕ) where
   either false p q = q
 
   call-roomy : (w : List ℕ) → Roomy bytes (callOf bytes w)
-  unfolding callBy inRecord inText roomFor
+  unfolding callBy inRecord inText formOf kindOf roomFor
   call-roomy w =
       let k = kindIn w in
       let none : 0 ≤ shownWords = omega arith in

@@ -9,25 +9,19 @@ use mathlib.Core.List.{List, [], _∷_, map}
 use lib.ListN.{length, take, drop, getD}
 use Rattle.model.specs.Entries.{Entry, strip}
 use Rattle.model.specs.Sum.{Result, done, refused}
-use Rattle.model.specs.Calls.{Call, noise, reset, gate, truncate, normalise, table, pick, sheet, view, Sum, held, sumOf, rebuiltEntries, Start, zeroHeader}
+use Rattle.model.specs.Calls.{Call, Form, asWords, asBytes, asEntry, formOf, kindOf, Sum, held, sumOf, rebuiltEntries, Start, zeroHeader}
 use Rattle.model.specs.Keyless.{keylessStart}
 use Rattle.perform.specs.Records.{numberWords, recordWords}
 use Rattle.model.specs.Demand3.{keylessAfter, Shown, withoutKeys, allKeylessShown, allComparisons, flagBegun, flagAfter}
-use Rattle.runs.specs.Runs.{Came, untouched, fits, callsIn}
+use Rattle.runs.specs.Runs.{Came, untouched, fits, doesNotFit, callsIn}
 
 -- ---- what is read from a call's record and its stretch of text
 
--- n words behind the numbers; of a sheet, n bytes of text
-unfoldable pub outputIn : Call → ℕ → List ℕ → List ℕ → List ℕ
-outputIn (noise c) n r t = take n (drop numberWords r)
-outputIn (reset q) n r t = take n (drop numberWords r)
-outputIn (gate g) n r t = take n (drop numberWords r)
-outputIn truncate n r t = take n (drop numberWords r)
-outputIn normalise n r t = take n (drop numberWords r)
-outputIn (table room) n r t = take n (drop numberWords r)
-outputIn (pick draw) n r t = take n (drop numberWords r)
-outputIn (sheet room) n r t = take n t
-outputIn (view place) n r t = take n (drop numberWords r)
+-- n words behind the numbers; of what is shown as bytes, n bytes of text
+unfoldable pub outputIn : Form → ℕ → List ℕ → List ℕ → List ℕ
+outputIn asWords n r t = take n (drop numberWords r)
+outputIn asBytes n r t = take n t
+outputIn asEntry n r t = take n (drop numberWords r)
 
 -- number, merged, stored, dropped, (compared,) place, and as much output as the length says
 abbrev pub shownIn : Call → List ℕ → List ℕ → Shown
@@ -38,7 +32,7 @@ shownIn c r t =
       stored = getD r 2 0;
       dropped = getD r 3 0;
       place = getD r 5 0;
-      output = withoutKeys c (outputIn c (getD r 6 0) r t);
+      output = withoutKeys c (outputIn (formOf (kindOf c)) (getD r 6 0) r t);
     }
 
 unfoldable pub readShown : ℕ → List Call → List ℕ → List ℕ → List Shown
@@ -79,7 +73,7 @@ Begun bytes cs b w log text o (refused n) = Refused n w log text o
 Begun bytes cs b w log text o (done m) = Agreed bytes cs m (flagBegun b) o
 
 unfoldable pub PromiseIf : Bool → ℕ → List Call → Start → List ℕ → List ℕ → List ℕ → Came → Type 0
-PromiseIf false bytes cs b w log text o = Refused 11 w log text o
+PromiseIf false bytes cs b w log text o = Refused doesNotFit w log text o
 PromiseIf true bytes cs b w log text o = Begun bytes cs b w log text o (keylessStart b (length w))
 
 -- THE PROMISE, of a store's words w, a log and a text, and of what came back

@@ -5,7 +5,7 @@ use mathlib.Core.List.{List, [], _∷_, _++_, map}
 use lib.Dec.{eqb, leb}
 use lib.ListN.{length, take, drop}
 use Rattle.model.specs.Lists.{groups, every}
-use Rattle.model.specs.Calls.{Call, Lent, held, Left, step, over, Start, start, zeroHeader}
+use Rattle.model.specs.Calls.{Call, Lent, held, Left, step, overlaid, Start, start, zeroHeader}
 use Rattle.perform.specs.Encoding.{callWords, known, callOf}
 use Rattle.perform.specs.Records.{recordWords, recordOf, textOf}
 use Rattle.model.specs.Demand3.{next, afterCalls}
@@ -31,12 +31,16 @@ fits bytes calls logLen textLen =
     && leb (countIn calls * bytes) textLen
     && every known (groupsIn calls)
 
+-- the number of a run that does not
+abbrev pub doesNotFit : ℕ
+doesNotFit = 19
+
 -- ---- what a run leaves
 
 -- a stretch of `len` words for each call: what f says that it wrote, over the stretch's start. All else is unchanged
 unfoldable pub filled : ℕ → (Call → Left → List ℕ) → List Call → Lent → List ℕ → List ℕ
 filled len f [] x w = w
-filled len f (c ∷ cs) x w = over (f c (step c x)) (take len w) ++ filled len f cs (next (step c x)) (drop len w)
+filled len f (c ∷ cs) x w = overlaid (f c (step c x)) (take len w) ++ filled len f cs (next (step c x)) (drop len w)
 
 -- a number; header and store; the records; the text
 pub record Came : Type 0 where
@@ -57,10 +61,10 @@ abbrev pub ranAll : ℕ → List Call → Lent → List ℕ → List ℕ → Cam
 ranAll bytes cs x log text =
     record { number = 0; lent = afterCalls cs x; log = filled recordWords recordOf cs x log; text = filled bytes textOf cs x text }
 
--- 11: the run does not fit
+-- the calls on a sum
 unfoldable pub ranOn : ℕ → List ℕ → Lent → List ℕ → List ℕ → Came
 ranOn bytes calls x log text =
-    cond (fits bytes calls (length log) (length text)) (ranAll bytes (callsIn bytes calls) x log text) (untouched 11 x log text)
+    cond (fits bytes calls (length log) (length text)) (ranAll bytes (callsIn bytes calls) x log text) (untouched doesNotFit x log text)
 
 -- ---- from a start on
 
@@ -69,9 +73,13 @@ unfoldable pub ranAfter : ℕ → List Call → Left → List ℕ → List ℕ �
 ranAfter bytes cs l log text =
     cond (eqb (l .answer .number) 0) (ranAll bytes cs (next l) log text) (untouched (l .answer .number) (next l) log text)
 
--- 11 comes first, then with a header of zeros
+-- a run that does not fit has no start: a header of zeros
+abbrev pub unfit : Ran
+unfit = record { number = doesNotFit; header = zeroHeader }
+
+-- that comes first, and nothing is written
 unfoldable pub ranFrom : ℕ → List ℕ → Start → List ℕ → List ℕ → List ℕ → Came
 ranFrom bytes calls b w log text =
     cond (fits bytes calls (length log) (length text))
     (ranAfter bytes (callsIn bytes calls) (start b w) log text)
-    (untouched 11 (held zeroHeader w) log text)
+    (came unfit w log text)

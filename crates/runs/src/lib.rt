@@ -14,14 +14,17 @@ ghost use Rattle.model.specs.Calls.{held, gave};
 ghost use Rattle.perform.specs.Encoding as Encoding;
 ghost use Rattle.perform.specs.Encoding.{callWords};
 ghost use Rattle.runs.specs.Runs as Runs;
-ghost use Rattle.runs.specs.Runs.{came, ranAll, ranOn, ranAfter, ranFrom, callsIn};
+ghost use Rattle.runs.specs.Runs.{unfit, came, ranAll, ranOn, ranAfter, ranFrom, callsIn};
 ghost use Rattle.runs.specs.Promise.{Promise};
 
-// What a run gives: 0, and the header as the last call left it; 11, if the run does not fit; or the number of a refused start.
+// What a run gives: 0, and the header as the last call left it; DOES_NOT_FIT; or the number of a refused start.
 pub struct Ran {
     pub number: u64,
     pub header: Header,
 }
+
+// The number of a run that does not fit: its words are no whole calls of known kinds, or log or text is too short for them. No call gives it.
+pub const DOES_NOT_FIT: u64 = 19;
 
 // ---- what is there for a run
 
@@ -102,8 +105,7 @@ fn run_calls(
 }
 
 // The calls on the sum that a header and a store hold, sound or not. Call i has record i of `log`, 588 words, and stretch i of `text`,
-// `bytes` bytes. 11, with the header as given and nothing changed: calls.len() is no multiple of 18, a kind is not known, or log or
-// text is too short.
+// `bytes` bytes. DOES_NOT_FIT comes with the header as given, and nothing changed.
 pub fn run(
     h: Header,
     store: &mut [u64],
@@ -118,12 +120,22 @@ pub fn run(
         return run_calls(h, store, calls, log, text, bytes);
     }
     Ran {
-        number: 11,
+        number: DOES_NOT_FIT,
         header: h,
     }
 }
 
 // ---- runs from a start on
+
+// What a run gives that does not fit, and so does not start.
+fn unfit_run() -> Ran
+    ensures { λ r. ⌜ r ≡ unfit ⌝ }
+{
+    Ran {
+        number: DOES_NOT_FIT,
+        header: answers::zero_header(),
+    }
+}
 
 // The calls, if the start that gave this answer was accepted.
 fn run_after(
@@ -145,8 +157,8 @@ fn run_after(
     run_calls(header, store, calls, log, text, bytes)
 }
 
-// A fresh sum, and then the calls on it. 11 first; then 1 and 2, as `fresh` gives them; with any of them a header of zeros, and nothing
-// changed.
+// A fresh sum, and then the calls on it. DOES_NOT_FIT first; then 1 and 2, as `fresh` gives them; with any of them a header of zeros, and
+// nothing changed.
 pub fn run_fresh(
     size: Size,
     threshold: f64,
@@ -161,17 +173,14 @@ pub fn run_fresh(
     ensures promise { λ r. ⌜ Promise bytes (now (calls .entry)) (Calls.fresh size threshold cutoff) (now (store .entry)) (now (log .entry)) (now (text .entry)) (came r (now (store .exit)) (now (log .exit)) (now (text .exit))) ⌝ }
 {
     if !fits(calls, log.len(), text.len(), bytes) {
-        return Ran {
-            number: 11,
-            header: checks::zero_header(),
-        };
+        return unfit_run();
     }
-    let a = sum::fresh(size, threshold, cutoff, store);
+    let a = fresh::fresh(size, threshold, cutoff, store);
     run_after(a, store, calls, log, text, bytes)
 }
 
-// The sum of a sheet, and then the calls on it. 11 first; then 7, 1, 2 and 5, as `read_sheet` gives them; with any of them a header of
-// zeros, and nothing changed.
+// The sum of a sheet, and then the calls on it. DOES_NOT_FIT first; then 7, 1, 2 and 5, as `read_sheet` gives them; with any of them a
+// header of zeros, and nothing changed.
 pub fn run_sheet(
     sheet: &[u8],
     store: &mut [u64],
@@ -184,10 +193,7 @@ pub fn run_sheet(
     ensures promise { λ r. ⌜ Promise bytes (now (calls .entry)) (Calls.read (now (sheet .entry))) (now (store .entry)) (now (log .entry)) (now (text .entry)) (came r (now (store .exit)) (now (log .exit)) (now (text .exit))) ⌝ }
 {
     if !fits(calls, log.len(), text.len(), bytes) {
-        return Ran {
-            number: 11,
-            header: checks::zero_header(),
-        };
+        return unfit_run();
     }
     let a = reader::read_sheet(sheet, store);
     run_after(a, store, calls, log, text, bytes)

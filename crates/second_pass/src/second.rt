@@ -2,6 +2,7 @@
 use crate::blocks;
 use crate::blocks::STACK_WORDS;
 use crate::trace;
+use calls::Operation;
 use circuit::Act;
 use circuit::Item;
 use circuit::Line;
@@ -11,8 +12,8 @@ use input::Found;
 use input::Source;
 use model::Answer;
 use model::Header;
-use walk::Outcome;
-use walk::Walk;
+use passes::Outcome;
+use passes::Pass;
 ghost use mathlib.Core.Path.{_≡_};
 ghost use Prim.Native.Nat.{_≤_};
 ghost use lib.ListN.{length};
@@ -28,9 +29,9 @@ pub struct Totals {
     pub lost: f64,
 }
 
-// The walk, the sum's header, and what the calls came to.
+// The pass, the sum's header, and what the calls came to.
 pub struct Run {
-    pub walk: Walk,
+    pub pass: Pass,
     pub header: Header,
     pub totals: Totals,
 }
@@ -54,7 +55,7 @@ fn plus(a: u64, b: usize) -> u64 {
 fn added(t: Totals, a: Answer, lost: f64) -> Totals {
     let c = a.counts;
     Totals {
-        calls: walk::next(t.calls),
+        calls: passes::next(t.calls),
         merged: plus(t.merged, c.merged),
         stored: plus(t.stored, c.stored),
         dropped: plus(t.dropped, c.dropped),
@@ -63,20 +64,20 @@ fn added(t: Totals, a: Answer, lost: f64) -> Totals {
     }
 }
 
-fn with_walk(r: Run, walk: Walk) -> Run
-    ensures { λ a. ⌜ (a .walk .window .from ≡ walk .window .from) × (a .walk .window .to ≡ walk .window .to) ⌝ }
+fn with_pass(r: Run, pass: Pass) -> Run
+    ensures { λ a. ⌜ (a .pass .window .from ≡ pass .window .from) × (a .pass .window .to ≡ pass .window .to) ⌝ }
 {
     let header = r.header;
     let totals = r.totals;
     Run {
-        walk,
+        pass,
         header,
         totals,
     }
 }
 
 fn ended(r: Run, outcome: Outcome, from: usize, to: usize) -> Run {
-    with_walk(r, walk::ended(r.walk, outcome, from, to))
+    with_pass(r, passes::ended(r.pass, outcome, from, to))
 }
 
 // ---- calls
@@ -87,21 +88,12 @@ struct Losses {
     all: f64,
 }
 
-fn losses_of(
-    h: Header,
-    scratch: &mut [u64],
-    act: Act,
-    rates: [f64; 15],
-    p: usize,
-    q: usize,
-    a: Answer,
-    lost: f64,
-) -> Losses {
+fn losses_of(h: Header, scratch: &mut [u64], o: Operation, a: Answer, lost: f64) -> Losses {
     if calls::has_lost(h, a) {
         let counts = a.counts;
         let total = calls::total(scratch, h);
         let after = a.header;
-        let here = calls::losses(h, scratch, act, rates, p, q);
+        let here = calls::losses(h, scratch, o);
         return Losses {
             here,
             all: calls::lost_after(lost, here, total, 0 < counts.dropped, after.count),
@@ -124,15 +116,12 @@ fn make(
     h: Header,
     store: &mut [u64],
     scratch: &mut [u64],
-    act: Act,
-    rates: [f64; 15],
-    p: usize,
-    q: usize,
+    o: Operation,
     lost: f64,
     wanted: bool,
 ) -> Made {
     if !wanted {
-        let answer = calls::make(h, store, act, rates, p, q);
+        let answer = calls::make(h, store, o);
         return Made {
             answer,
             losses: Losses {
@@ -142,10 +131,10 @@ fn make(
         };
     }
     calls::copy(scratch, store);
-    let answer = calls::make(h, store, act, rates, p, q);
+    let answer = calls::make(h, store, o);
     Made {
         answer,
-        losses: losses_of(h, scratch, act, rates, p, q, answer, lost),
+        losses: losses_of(h, scratch, o, answer, lost),
     }
 }
 
@@ -158,19 +147,19 @@ fn judged(r: Run, l: Line, lost: f64, most: f64) -> Run {
 }
 
 // The run after a call.
-fn after_call(r: Run, l: Line, p: usize, q: usize, m: Made, written: bool, most: f64) -> Run {
+fn after_call(r: Run, l: Line, o: Operation, m: Made, written: bool, most: f64) -> Run {
     let a = m.answer;
     let losses = m.losses;
     if a.number != 0 {
-        return ended(r, Outcome::Refused(a.number, p, q), l.from, l.to);
+        return ended(r, Outcome::Refused(a.number, o.p, o.q), l.from, l.to);
     }
     if !written {
         return ended(r, Outcome::Unwritten, 0, 0);
     }
-    let walk = r.walk;
+    let pass = r.pass;
     let header = a.header;
     let next = Run {
-        walk,
+        pass,
         header,
         totals: added(r.totals, a, losses.all),
     };
@@ -181,35 +170,23 @@ fn after_call(r: Run, l: Line, p: usize, q: usize, m: Made, written: bool, most:
 fn call(
     line: &[u8],
     l: Line,
-    act: Act,
-    p: usize,
-    q: usize,
+    o: Operation,
     store: &mut [u64],
     scratch: &mut [u64],
     r: Run,
     wanted: Wanted,
 ) -> Run {
-    let walk = r.walk;
+    let pass = r.pass;
     let totals = r.totals;
-    let rates = l.rates;
+    let act = o.act;
     let needed = wanted.losses && calls::can_lose(act);
-    let m = make(
-        r.header,
-        store,
-        scratch,
-        act,
-        rates,
-        p,
-        q,
-        totals.lost,
-        needed,
-    );
+    let m = make(r.header, store, scratch, o, totals.lost, needed);
     let losses = m.losses;
     let mut written = true;
     if wanted.trace {
-        written = trace::write(walk.line, line, l, act, p, q, m.answer, losses.here);
+        written = trace::write(pass.line, line, l, o, m.answer, losses.here);
     }
-    after_call(r, l, p, q, m, written, wanted.most_lost)
+    after_call(r, l, o, m, written, wanted.most_lost)
 }
 
 // The calls of a line, target by target.
@@ -223,6 +200,7 @@ fn run_targets(
     wanted: Wanted,
 ) -> Run {
     let pairs = circuit::takes_pairs(act);
+    let rates = l.rates;
     let mut run = r;
     let mut at = l.targets;
     loop {
@@ -231,8 +209,9 @@ fn run_targets(
         let Seen::At(p, q) = seen else {
             return run;
         };
-        run = call(line, l, act, p, q, store, scratch, run, wanted);
-        if !walk::is_going(run.walk) {
+        let o = Operation { act, rates, p, q };
+        run = call(line, l, o, store, scratch, run, wanted);
+        if !passes::is_going(run.pass) {
             return run;
         }
         at = t.to;
@@ -258,9 +237,9 @@ fn run_item(
         Item::Bad(fault) => ended(r, Outcome::Bad(fault), l.from, l.to),
         Item::Call(act) => run_targets(line, l, act, store, scratch, r, wanted),
         Item::Repeat(times) => {
-            with_walk(r, blocks::opened(stack, r.walk, times, made, l.from, l.to))
+            with_pass(r, blocks::opened(stack, r.pass, times, made, l.from, l.to))
         }
-        Item::Close => with_walk(r, blocks::closed(stack, r.walk, made, l.from, l.to)),
+        Item::Close => with_pass(r, blocks::closed(stack, r.pass, made, l.from, l.to)),
     }
 }
 
@@ -273,10 +252,10 @@ fn run_found(
     r: Run,
     wanted: Wanted,
 ) -> Run
-    requires { ⌜ (r .walk .window .from ≤ r .walk .window .to) × (r .walk .window .to ≤ length (now bytes)) ⌝ }
+    requires { ⌜ (r .pass .window .from ≤ r .pass .window .to) × (r .pass .window .to ≤ length (now bytes)) ⌝ }
 {
-    let walk = r.walk;
-    let window = walk.window;
+    let pass = r.pass;
+    let window = pass.window;
     let found = window.found;
     let from = window.from;
     let to = window.to;
@@ -299,16 +278,16 @@ fn run_line(
     r: Run,
     wanted: Wanted,
 ) -> Run {
-    let before = r.walk;
+    let before = r.pass;
     let window = input::next_line(s, bytes, before.window);
-    let next = with_walk(r, walk::moved(before, window));
+    let next = with_pass(r, passes::moved(before, window));
     run_found(bytes, stack, store, scratch, next, wanted)
 }
 
 // A sum that is empty from the start has lost everything.
 fn start(header: Header) -> Run {
     Run {
-        walk: walk::start(),
+        pass: passes::start(),
         header,
         totals: Totals {
             calls: 0,
@@ -335,7 +314,7 @@ pub fn run_all(
     let mut turns = u64::MAX;
     while turns > 0 {
         r = run_line(s, bytes, stack, store, scratch, r, wanted);
-        if !walk::is_going(r.walk) {
+        if !passes::is_going(r.pass) {
             return r;
         }
         turns -= 1;

@@ -1,3 +1,4 @@
+pub mod Walk
 pub mod Noting
 pub mod Rows
 pub mod Seeking

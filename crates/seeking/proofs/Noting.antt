@@ -1,18 +1,24 @@
 -- Keys noted one after the other, and what the table then says. Assumes nothing.
-use mathlib.Core.Path.{_≡_, refl, sym, ap, ap₂, _∙_}
+use mathlib.Core.Path.{_≡_, refl, sym, ap, _∙_}
 use mathlib.Core.List.{List, [], _∷_, _++_}
 use mathlib.Core.Logic.{⊎-elim}
-use Prim.Native.Nat.{ℕ, zero, suc, _+_, _*_, _≤_, _<_}
+use Prim.Native.Nat.{ℕ, zero, suc, _+_, _≤_, _<_}
 use native.Mathlib.Nat.{eq-or-lt-of-le, le-refl, le-trans, le-of-suc-le-suc}
 use native.Mathlib.Omega.{arith}
 use lib.Bits.{bitXor}
-use lib.ListN.{length, getD, set, drop, length-set, length-append, List·getD-append}
-use lib.Seq.{getD-set-same, getD-set-other, getD-take, getD-drop, getD-at, ext-getD}
-use Rattle.model.specs.Entries.{Keyed, entryLen, entryOf, stretch, listed}
+use lib.ListN.{length, getD, set, length-set, length-append, List·getD-append}
+use lib.Seq.{getD-set-same, getD-set-other, getD-at, ext-getD}
+use Rattle.model.specs.Entries.{Keyed, entryOf, stretch, listed}
 use Rattle.model.specs.Keys.{storedKey}
 use Rattle.model.specs.declared.Size.{Size}
 use Rattle.model.proofs.Entries.{length-listed, listed-at}
+use Rattle.model.specs.Sound.{Packed}
+use Rattle.entries.specs.Within.{Within}
 use Rattle.seeking.specs.Noted.{gathered, slotOf, Lowered, Noted}
+
+-- n and k of a packed store are within their limits
+pub packed-within : {s : Size} {count : ℕ} {w : List ℕ} → Packed s count w → Within s
+packed-within p = record { qubits = p .sized .qubits .high; coefficients = p .sized .coefficients .high }
 
 -- ---- a place that is given, or not
 

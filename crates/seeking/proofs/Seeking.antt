@@ -1,7 +1,7 @@
 -- A walk that begins where the table says: no entry before that place has the key. Assumes nothing.
-use mathlib.Core.Path.{_≡_, refl, sym, _∙_}
+use mathlib.Core.Path.{_≡_, sym, _∙_}
 use mathlib.Core.List.{List}
-use Prim.Native.Nat.{ℕ, zero, suc, _+_, _≤_, _<_}
+use Prim.Native.Nat.{ℕ, zero, suc, _≤_, _<_}
 use native.Mathlib.Numerals.{add-one}
 use native.Mathlib.Omega.{arith}
 use lib.Ieee.{Float}
@@ -10,9 +10,9 @@ use Rattle.model.specs.Entries.{Keyed}
 use Rattle.model.specs.Keys.{storedKey}
 use Rattle.model.specs.declared.Size.{Size}
 use Rattle.model.specs.declared.Found.the-variants.{Nothing}
-use Rattle.store.specs.Branch.{Searched}
-use Rattle.store.proofs.Walk.{Walking, start, ended, other-key}
 use Rattle.seeking.specs.Noted.{gathered, slotOf, Noted}
+use Rattle.seeking.specs.Walk.{Searched, Walking}
+use Rattle.seeking.proofs.Walk.{start, ended, other-key}
 use Rattle.seeking.proofs.Noting.{stands-past, length-gathered, gathered-at}
 
 module _ (s : Size) (threshold : Float) (b : Keyed) (count : ℕ) (at : ℕ → Keyed) where

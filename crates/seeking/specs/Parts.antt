@@ -1,6 +1,6 @@
 -- Rows, compared in two parts. Assumes nothing.
 use Prim.Native.Nat.{ℕ, zero, suc}
-use Rattle.keys.specs.declared.Change.{Change}
+use Rattle.changes.specs.declared.Change.{Change}
 
 -- the bits of the part that begins with row r
 unfoldable pub flipsFrom : Change → ℕ → ℕ

@@ -1,26 +1,42 @@
 // The walk over stored keys for a branch that is not made yet: document 01, point 3. The full keys of the list's entries stand in an
 // array, and a table says from which place on a key can stand; the branch is its parent, changed. A list is given by the places of its
 // entries in the store: entry i stands at places[i] or, where no place is given, at place i.
-use keys::Change;
+use changes::Change;
 use model::BranchMutation;
 use model::Found;
 use model::Size;
-use store::Search;
 ghost use mathlib.Core.Path.{_≡_};
 ghost use mathlib.Core.List.{[]};
 ghost use Prim.Native.Nat.{min, _+_, _*_, _≤_, _<_};
 ghost use lib.ListN.{length, getD, set};
 ghost use Rattle.model.specs.Entries.{entryLen, entryOf, stretch, listed};
-ghost use Rattle.model.specs.Keys.{usualSalts, storedKey};
-ghost use Rattle.model.specs.Changes.{changedKeyed};
+ghost use Rattle.model.specs.Keys.{usualSalts};
+ghost use Rattle.model.specs.Lists.{allBelow};
+ghost use Rattle.model.specs.Likeness.{square, nearAt, sameRows, alike};
+ghost use Rattle.model.specs.Changes.{changedBody};
 ghost use Rattle.model.specs.Qubits.{QubitsBelow};
-ghost use Rattle.model.proofs.Packed.{Packed};
-ghost use Rattle.checks.specs.Sized.{Within};
-ghost use Rattle.keys.specs.Changes.{changeOf};
-ghost use Rattle.store.specs.Branch.{Searched};
-ghost use Rattle.store.proofs.Walk.{Walking};
+ghost use Rattle.model.specs.Sound.{Packed};
+ghost use Rattle.entries.specs.Within.{Within};
+ghost use Rattle.changes.specs.Changes.{changeOf};
 ghost use Rattle.seeking.specs.Noted.{seenAt, SeenIn, gathered, slotOf, Lowered, Kept, Noted};
 ghost use Rattle.seeking.specs.Parts.{flipsFrom};
+ghost use Rattle.seeking.specs.Walk.{soughtIn, Consistent, Searched, Walking};
+
+// ---- what is looked for, and what is found
+
+// The entry at place `origin` of the store, changed so: its key is this.
+pub struct Sought {
+    pub origin: usize,
+    pub mutation: BranchMutation,
+    pub change: Change,
+    pub key: u64,
+}
+
+// What a search finds, and how many full comparisons it made.
+pub struct Search {
+    pub found: Found,
+    pub compared: usize,
+}
 
 // ---- the entries
 
@@ -39,7 +55,7 @@ pub fn entry_at<'a>(store: &'a [u64], places: &[usize], size: Size, i: usize) ->
     requires { ⌜ Within size × (getD (now places) i i * entryLen size + entryLen size ≤ length (now store)) ⌝ }
     ensures { λ r. ⌜ (now r ≡ stretch size (now (store .entry)) (getD (now (places .entry)) i i)) × (length (now r) ≡ entryLen size) ⌝ }
 {
-    store::entry(store, size, place_of(places, i))
+    entries::entry(store, size, place_of(places, i))
 }
 
 // ---- their keys
@@ -121,10 +137,77 @@ fn flips_from(c: Change, r: usize) -> u64
     c.high
 }
 
+// The rows of e are the parent's, with the phases that the change leaves. The first part that differs ends the comparison.
+fn rows_same(e: &[u64], parent: &[u64], size: Size, c: Change) -> bool
+    requires { ⌜ Within size × (length (now e) ≡ entryLen size) × (length (now parent) ≡ entryLen size) ⌝ }
+    ensures { λ r. ⌜ ((m : BranchMutation) → c ≡ changeOf usualSalts (size .n) m (entryOf size (now (parent .entry)) .entry .body .rows) → r ≡ sameRows size (entryOf size (now (e .entry)) .entry .body) (changedBody (size .n) m (entryOf size (now (parent .entry)) .entry .body))) ⌝ }
+{
+    let mut r = 0;
+    while r < 2 * size.n {
+        let many = few_of(2 * size.n - r);
+        let flips = flips_from(c, r);
+        let at = 5 + 3 * size.k + 3 * r;
+        let end = at + 3 * many;
+        if branch::same_part(&e[at..end], &parent[at..end], many, flips) {
+            r += many;
+        } else {
+            return false;
+        }
+    }
+    true
+}
+
+// Each coefficient of e is near the parent's, which has as many.
+fn coefficients_near(e: &[u64], parent: &[u64], size: Size, threshold: f64) -> bool
+    requires { ⌜ Within size × (length (now e) ≡ entryLen size) × (length (now parent) ≡ entryLen size) ⌝ }
+    requires { ⌜ (entryOf size (now e) .entry .body .count ≡ entryOf size (now parent) .entry .body .count) × (entryOf size (now parent) .entry .body .count ≤ size .k) ⌝ }
+    ensures { λ r. ⌜ r ≡ allBelow (nearAt (square threshold) (entryOf size (now (e .entry)) .entry .body) (entryOf size (now (parent .entry)) .entry .body)) (entryOf size (now (e .entry)) .entry .body .count) ⌝ }
+{
+    let rows = 5 + 3 * size.k;
+    let coefs = &e[5..rows];
+    let parent_coefs = &parent[5..rows];
+    let count = e[4] as usize;
+    let limit = threshold * threshold;
+    let rises = likeness::indices_rise(parent_coefs, count);
+    let mut j = 0;
+    while j < count {
+        if likeness::near_by(coefs, parent_coefs, count, j, limit, rises) {
+            j += 1;
+        } else {
+            return false;
+        }
+    }
+    true
+}
+
+// The entry with the words e is alike with the parent, changed: equal loss (word 1), coefficient count (word 4) and rows, and each of its
+// coefficients near. The first of these that differs ends the comparison.
+fn alike_changed(
+    e: &[u64],
+    parent: &[u64],
+    size: Size,
+    threshold: f64,
+    m: BranchMutation,
+    c: Change,
+) -> bool
+    requires { ⌜ Within size × (length (now e) ≡ entryLen size) × (length (now parent) ≡ entryLen size) ⌝ }
+    requires { ⌜ (entryOf size (now parent) .entry .body .count ≤ size .k) × QubitsBelow 64 m × (c ≡ changeOf usualSalts (size .n) m (entryOf size (now parent) .entry .body .rows)) ⌝ }
+    ensures { λ r. ⌜ r ≡ alike size threshold (entryOf size (now (e .entry)) .entry .body) (changedBody (size .n) m (entryOf size (now (parent .entry)) .entry .body)) ⌝ }
+{
+    if e[1] != branch::loss_after(m, parent[1]) {
+        return false;
+    }
+    if e[4] != parent[4] {
+        return false;
+    }
+    if rows_same(e, parent, size, c) {
+        return coefficients_near(e, parent, size, threshold);
+    }
+    false
+}
+
 // The walk from place `first` on, where no entry before that has the key: the first of the `count` entries that has it and is alike
-// with the changed entry at place `origin` of the store: equal loss (word 1), coefficient count (word 4) and rows, with the phases that
-// the change leaves, and each of its coefficients near. Only an entry with the key is compared in full, and the first part of it that
-// differs ends the comparison.
+// with what is sought. Only an entry with the key is compared in full.
 fn walk_from(
     store: &[u64],
     places: &[usize],
@@ -132,20 +215,17 @@ fn walk_from(
     size: Size,
     count: usize,
     threshold: f64,
-    origin: usize,
-    m: BranchMutation,
-    c: Change,
-    key: u64,
+    sought: Sought,
     first: usize,
 ) -> Search
     requires { ⌜ Within size × (count ≤ 256) × SeenIn size count (now places) (now store) × Kept count (seenAt size (now places) (now store)) (now keys) ⌝ }
-    requires { ⌜ (origin * entryLen size + entryLen size ≤ length (now store)) × (entryOf size (stretch size (now store) origin) .entry .body .count ≤ size .k) × QubitsBelow 64 m × (key ≡ storedKey (changedKeyed usualSalts (size .n) m (entryOf size (stretch size (now store) origin)))) × Walking size threshold (changedKeyed usualSalts (size .n) m (entryOf size (stretch size (now store) origin))) (gathered count (seenAt size (now places) (now store))) 0 first × (c ≡ changeOf usualSalts (size .n) m (entryOf size (stretch size (now store) origin) .entry .body .rows)) ⌝ }
-    ensures { λ r. ⌜ Searched size threshold (changedKeyed usualSalts (size .n) m (entryOf size (stretch size (now (store .entry)) origin))) (gathered count (seenAt size (now (places .entry)) (now (store .entry)))) r ⌝ }
+    requires { ⌜ Consistent size (now store) sought × Walking size threshold (soughtIn size (now store) sought) (gathered count (seenAt size (now places) (now store))) 0 first ⌝ }
+    ensures { λ r. ⌜ Searched size threshold (soughtIn size (now (store .entry)) sought) (gathered count (seenAt size (now (places .entry)) (now (store .entry)))) r ⌝ }
 {
-    let rows = 5 + 3 * size.k;
-    let row_count = 2 * size.n;
-    let limit = threshold * threshold;
-    let parent = store::entry(store, size, origin);
+    let key = sought.key;
+    let m = sought.mutation;
+    let c = sought.change;
+    let parent = entries::entry(store, size, sought.origin);
     let mut compared = 0;
     let mut i = first;
     let found = 'keys: loop {
@@ -159,42 +239,14 @@ fn walk_from(
         }
         compared += 1;
         let e = entry_at(store, places, size, place);
-        if e[1] != branch::loss_after(m, parent[1]) {
-            continue 'keys;
+        if alike_changed(e, parent, size, threshold, m, c) {
+            break 'keys Found::At(place);
         }
-        if e[4] != parent[4] {
-            continue 'keys;
-        }
-        let mut r = 0;
-        while r < row_count {
-            let many = few_of(row_count - r);
-            let flips = flips_from(c, r);
-            let at = rows + 3 * r;
-            let end = at + 3 * many;
-            if branch::same_part(&e[at..end], &parent[at..end], many, flips) {
-                r += many;
-            } else {
-                continue 'keys;
-            }
-        }
-        let coefs = &e[5..rows];
-        let parent_coefs = &parent[5..rows];
-        let coefficients = e[4] as usize;
-        let rises = likeness::indices_rise(parent_coefs, coefficients);
-        let mut c = 0;
-        while c < coefficients {
-            if likeness::near_by(coefs, parent_coefs, coefficients, c, limit, rises) {
-                c += 1;
-            } else {
-                continue 'keys;
-            }
-        }
-        break 'keys Found::At(place);
     };
     Search { found, compared }
 }
 
-// The search among `count` entries for one that is alike with the changed entry at place `origin` of the store, whose key this is.
+// The search among `count` entries for one that is alike with what is sought.
 pub fn seek(
     store: &[u64],
     places: &[usize],
@@ -203,35 +255,20 @@ pub fn seek(
     size: Size,
     count: usize,
     threshold: f64,
-    origin: usize,
-    m: BranchMutation,
-    c: Change,
-    key: u64,
+    sought: Sought,
 ) -> Search
     requires { ⌜ Within size × (count ≤ 256) × SeenIn size count (now places) (now store) × Noted count (seenAt size (now places) (now store)) (now keys) (now firsts) ⌝ }
-    requires { ⌜ (origin * entryLen size + entryLen size ≤ length (now store)) × (entryOf size (stretch size (now store) origin) .entry .body .count ≤ size .k) × QubitsBelow 64 m × (key ≡ storedKey (changedKeyed usualSalts (size .n) m (entryOf size (stretch size (now store) origin)))) × (c ≡ changeOf usualSalts (size .n) m (entryOf size (stretch size (now store) origin) .entry .body .rows)) ⌝ }
-    ensures { λ r. ⌜ Searched size threshold (changedKeyed usualSalts (size .n) m (entryOf size (stretch size (now (store .entry)) origin))) (gathered count (seenAt size (now (places .entry)) (now (store .entry)))) r ⌝ }
+    requires { ⌜ Consistent size (now store) sought ⌝ }
+    ensures { λ r. ⌜ Searched size threshold (soughtIn size (now (store .entry)) sought) (gathered count (seenAt size (now (places .entry)) (now (store .entry)))) r ⌝ }
 {
-    let first = first_place(firsts, key);
+    let first = first_place(firsts, sought.key);
     if count <= first {
         return Search {
             found: Found::Nothing,
             compared: 0,
         };
     }
-    walk_from(
-        store,
-        places,
-        keys,
-        size,
-        count,
-        threshold,
-        origin,
-        m,
-        c,
-        key,
-        first,
-    )
+    walk_from(store, places, keys, size, count, threshold, sought, first)
 }
 
 // ---- the list that the store lists: each entry stands at its own place
@@ -259,14 +296,11 @@ pub fn seek_listed(
     size: Size,
     count: usize,
     threshold: f64,
-    origin: usize,
-    m: BranchMutation,
-    c: Change,
-    key: u64,
+    sought: Sought,
 ) -> Search
     requires { ⌜ Within size × (count ≤ 256) × (count * entryLen size ≤ length (now store)) × Noted count (seenAt size [] (now store)) (now keys) (now firsts) ⌝ }
-    requires { ⌜ (origin * entryLen size + entryLen size ≤ length (now store)) × (entryOf size (stretch size (now store) origin) .entry .body .count ≤ size .k) × QubitsBelow 64 m × (key ≡ storedKey (changedKeyed usualSalts (size .n) m (entryOf size (stretch size (now store) origin)))) × (c ≡ changeOf usualSalts (size .n) m (entryOf size (stretch size (now store) origin) .entry .body .rows)) ⌝ }
-    ensures { λ r. ⌜ Searched size threshold (changedKeyed usualSalts (size .n) m (entryOf size (stretch size (now (store .entry)) origin))) (listed size count (now (store .entry))) r ⌝ }
+    requires { ⌜ Consistent size (now store) sought ⌝ }
+    ensures { λ r. ⌜ Searched size threshold (soughtIn size (now (store .entry)) sought) (listed size count (now (store .entry))) r ⌝ }
 {
     let own = [0usize; 1];
     seek(
@@ -277,9 +311,6 @@ pub fn seek_listed(
         size,
         count,
         threshold,
-        origin,
-        m,
-        c,
-        key,
+        sought,
     )
 }

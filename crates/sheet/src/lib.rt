@@ -8,20 +8,21 @@ ghost use Prim.Native.Nat.{_+_, _*_, _≤_};
 ghost use lib.ListN.{length, take, drop, getD};
 ghost use Rattle.model.specs.Lists.{groups, joined};
 ghost use Rattle.model.specs.Entries.{headLen, coefsLen, entryLen, entryOf, strip, listed};
-ghost use Rattle.model.specs.Sheet.{columns, field, line, lineLen, sheetText};
+ghost use Rattle.model.specs.Sheet.{justified, line, lineLen, sheetText};
 ghost use Rattle.model.specs.Calls as Calls;
-ghost use Rattle.checks.specs.Sized.{Within};
-ghost use Rattle.sheet.specs.Text.{entryText, entriesText, Counted, Sound, sheetOn};
+ghost use Rattle.entries.specs.Within.{Within};
+ghost use Rattle.model.specs.Sound.{Sound};
+ghost use Rattle.sheet.specs.Text.{entryText, entriesText, sheetOn};
 
 // ---- fields and lines
 
-// The field of v: blanks, and its digits at the end. The columns are written from the last to the first.
-pub fn put_field(out: &mut [u8], v: u64)
-    requires { ⌜ length (now out) ≡ columns ⌝ }
-    ensures { λ _. ⌜ now (out .exit) ≡ field v ⌝ }
+// v in as many columns as there are bytes: blanks, and its digits at the end. The columns are written from the last to the first.
+pub fn put_number(out: &mut [u8], v: u64)
+    requires { ⌜ 1 ≤ length (now out) ⌝ }
+    ensures { λ _. ⌜ now (out .exit) ≡ justified (length (now (out .entry))) v ⌝ }
 {
-    let mut i = 20;
-    out[20] = (48 + v % 10) as u8;
+    let mut i = out.len() - 1;
+    out[i] = (48 + v % 10) as u8;
     let mut rest = v / 10;
     while 0 < i {
         i -= 1;
@@ -43,7 +44,7 @@ pub fn put_line(out: &mut [u8], fields: &[u64])
     let mut j = 0;
     while j < fields.len() {
         let end = at + 21;
-        put_field(&mut out[at..end], fields[j]);
+        put_number(&mut out[at..end], fields[j]);
         at = end;
         j += 1;
     }
@@ -111,11 +112,10 @@ pub fn put_entry(out: &mut [u8], e: &[u64], size: Size)
 
 // The bytes of the lines of all listed entries.
 pub fn entries_text_len(store: &[u64], size: Size, count: usize) -> usize
-    requires { ⌜ Within size × (count ≤ 256) × (count * entryLen size ≤ length (now store)) ⌝ }
-    requires { ⌜ Counted size (map strip (listed size count (now store))) ⌝ }
+    requires { ⌜ Sound size count (now store) ⌝ }
     ensures { λ r. ⌜ (r ≡ length (entriesText (size .n) (map strip (listed size count (now (store .entry)))))) × (r ≤ 256 * 12352) ⌝ }
 {
-    let len = checks::entry_len(size);
+    let len = entries::entry_len(size);
     let mut t = 0;
     let mut i = 0;
     while i < count {
@@ -128,12 +128,11 @@ pub fn entries_text_len(store: &[u64], size: Size, count: usize) -> usize
 
 // The lines of all listed entries.
 pub fn put_entries(out: &mut [u8], store: &[u64], size: Size, count: usize)
-    requires { ⌜ Within size × (count ≤ 256) × (count * entryLen size ≤ length (now store)) ⌝ }
-    requires { ⌜ Counted size (map strip (listed size count (now store))) ⌝ }
+    requires { ⌜ Sound size count (now store) ⌝ }
     requires { ⌜ length (now out) ≡ length (entriesText (size .n) (map strip (listed size count (now store)))) ⌝ }
     ensures { λ _. ⌜ now (out .exit) ≡ entriesText (size .n) (map strip (listed size count (now (store .entry)))) ⌝ }
 {
-    let len = checks::entry_len(size);
+    let len = entries::entry_len(size);
     let mut at = 0;
     let mut i = 0;
     while i < count {
@@ -149,7 +148,7 @@ pub fn put_entries(out: &mut [u8], store: &[u64], size: Size, count: usize)
 
 // The bytes of a sound sum's sheet.
 pub fn sheet_len(h: Header, store: &[u64]) -> usize
-    requires { ⌜ Sound h (now store) ⌝ }
+    requires { ⌜ Sound (h .size) (h .count) (now store) ⌝ }
     ensures { λ r. ⌜ r ≡ length (sheetText (sheetOn h (now (store .entry)))) ⌝ }
 {
     let size = h.size;
@@ -158,7 +157,7 @@ pub fn sheet_len(h: Header, store: &[u64]) -> usize
 
 // A sound sum's sheet.
 pub fn put_sheet(out: &mut [u8], h: Header, store: &[u64])
-    requires { ⌜ Sound h (now store) ⌝ }
+    requires { ⌜ Sound (h .size) (h .count) (now store) ⌝ }
     requires { ⌜ length (now out) ≡ length (sheetText (sheetOn h (now store))) ⌝ }
     ensures { λ _. ⌜ now (out .exit) ≡ sheetText (sheetOn h (now (store .entry))) ⌝ }
 {
@@ -181,19 +180,16 @@ pub fn put_sheet(out: &mut [u8], h: Header, store: &[u64])
 // THE CALL: the sum's sheet at the start of `out`, what stands past it unchanged. 1, 2, 5, 8.
 pub fn write_sheet(h: Header, store: &[u64], out: &mut [u8]) -> Answer
     ensures answer { λ r. ⌜ r ≡ Calls.step (Calls.sheet (length (now (out .entry)))) (Calls.held h (now (store .entry))) .answer ⌝ }
-    ensures output { λ _. ⌜ now (out .exit) ≡ Calls.over (Calls.step (Calls.sheet (length (now (out .entry)))) (Calls.held h (now (store .entry))) .output) (now (out .entry)) ⌝ }
+    ensures output { λ _. ⌜ now (out .exit) ≡ Calls.overlaid (Calls.step (Calls.sheet (length (now (out .entry)))) (Calls.held h (now (store .entry))) .output) (now (out .entry)) ⌝ }
 {
-    let number = checks::shape_number(h, store);
+    let number = checks::front(h, store, 0);
     if number != 0 {
-        return checks::plain_answer(h, number);
+        return answers::plain_answer(h, number);
     }
-    if checks::words_sound(h, store) {
-        let length = sheet_len(h, store);
-        if out.len() < length {
-            return checks::plain_answer(h, 8);
-        }
-        put_sheet(&mut out[0..length], h, store);
-        return checks::looked_answer(h, 0, length);
+    let length = sheet_len(h, store);
+    if out.len() < length {
+        return answers::plain_answer(h, 8);
     }
-    checks::plain_answer(h, 5)
+    put_sheet(&mut out[0..length], h, store);
+    answers::looked_answer(h, 0, length)
 }

@@ -24,11 +24,12 @@ use Rattle.model.specs.declared.Size.{Size}
 use Rattle.model.proofs.Lists.{and-both, all-at}
 use Rattle.model.proofs.Groups.{stride-le}
 use Rattle.model.proofs.Entries.{listed-at, part-tail}
-use Rattle.model.proofs.Packed.{Packed, within}
-use Rattle.keys.specs.Changes.{changeOf}
-use Rattle.keys.specs.declared.Change.{Change}
-use Rattle.deltas.specs.Tables.{firstTable, secondTable, changeAt}
-use Rattle.deltas.proofs.Masks.{SamePaulis, branch-changes}
+use Rattle.model.specs.Sound.{Packed}
+use Rattle.model.proofs.Packed.{within}
+use Rattle.changes.specs.Changes.{changeOf}
+use Rattle.changes.specs.declared.Change.{Change}
+use Rattle.changes.specs.Tables.{firstTable, secondTable, changeAt}
+use Rattle.changes.proofs.Tables.{SamePaulis, branch-changes}
 use Rattle.branch.specs.Same.{samePauli}
 use Rattle.arms.specs.Arms.{mutationAt, armAt, armsBelow, ShapeBelow}
 use Rattle.arms.specs.declared.Arms.{Arms}
@@ -36,7 +37,8 @@ use Rattle.arms.specs.declared.Shape.{Shape}
 use Rattle.arms.specs.declared.Shape.the-variants.{One, Lose, Two}
 use Rattle.model.specs.Qubits.{QubitsBelow}
 use Rattle.merging.specs.Progress.{unweighed, Light, Went, started}
-use Rattle.spread.specs.Branches.{parentAt, branchesBelow, liveAt, branchesBy, branchesUpTo}
+use Rattle.spread.specs.Branches.{TablesOf, parentAt, branchesBelow, liveAt, branchesBy, branchesUpTo}
+use Rattle.spread.specs.declared.Tables.{Tables}
 use Rattle.merging.specs.declared.Progress.{Progress}
 use Rattle.merging.proofs.Went.{all-there, two-runs}
 
@@ -63,6 +65,12 @@ same-count e x h = ap (λ (y : Keyed). y .entry .body .count) h
 pub same-rows : (e x : Keyed) → unweighed e ≡ unweighed x → e .entry .body .rows ≡ x .entry .body .rows
 unfolding reweighed
 same-rows e x h = ap (λ (y : Keyed). y .entry .body .rows) h
+
+-- so its tables are the same
+pub same-tables : {s : Size} {h : Shape} {e x : Keyed} {t : Tables} → unweighed e ≡ unweighed x → TablesOf s h x t → TablesOf s h e t
+same-tables {s} {h} {e} {x} u t =
+    let rows = sym (same-rows e x u) in
+    record { first = t .first ∙ ap (firstTable h (s .n)) rows; second = t .second ∙ ap (secondTable h (s .n)) rows }
 
 -- the rows of a parent, as they are lent
 abbrev pub lentRows : Size → List ℕ → List ℕ

@@ -11,7 +11,8 @@ use Rattle.model.specs.Entries.{entryLen, entryOf}
 use Rattle.model.specs.Store.{keyedWeighed, reweighed}
 use Rattle.model.specs.declared.Size.{Size}
 use Rattle.arms.specs.declared.Shape.{Shape}
-use Rattle.rebuild.specs.Saved.{Became, withWord}
+use Rattle.entries.specs.Became.{Became}
+use Rattle.rebuild.specs.Saved.{withWord}
 use Rattle.rebuild.proofs.Words.{put}
 use Rattle.spread.specs.Branches.{liveAt, scaledBy}
 

@@ -18,7 +18,8 @@ use Rattle.model.proofs.Entries.{length-listed, listed-at}
 use Rattle.arms.specs.declared.Arms.{Arms}
 use Rattle.arms.specs.declared.Shape.{Shape}
 use Rattle.merging.specs.Progress.{unweighed, Went, started}
-use Rattle.spread.specs.Branches.{liveAt, scaledBy, branchesUpTo, FewCoefficients}
+use Rattle.model.specs.Sound.{FewCoefficients}
+use Rattle.spread.specs.Branches.{liveAt, scaledBy, branchesUpTo}
 use Rattle.spread.specs.Spread.{keepBy, splitFor, Spread}
 use Rattle.merging.specs.declared.Progress.{Progress}
 use Rattle.spread.proofs.Parents.{same-count}

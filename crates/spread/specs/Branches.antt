@@ -1,5 +1,6 @@
 -- The branches of the listed entries. Assumes nothing.
-use Prim.Native.Nat.{ℕ, zero, suc, _+_, _≤_, _<_}
+use Prim.Native.Nat.{ℕ, zero, suc}
+use mathlib.Core.Path.{_≡_}
 use mathlib.Core.Bool.{Bool, cond}
 use mathlib.Core.List.{List, [], _++_, map}
 use lib.Dec.{eqb}
@@ -16,8 +17,15 @@ use Rattle.model.specs.declared.Size.{Size}
 use Rattle.arms.specs.Arms.{armsBelow, shapeQubits}
 use Rattle.arms.specs.declared.Arms.{Arms}
 use Rattle.arms.specs.declared.Shape.{Shape}
+use Rattle.changes.specs.Tables.{firstTable, secondTable}
+use Rattle.spread.specs.declared.Tables.{Tables}
 
 -- ---- the branches of one parent
+
+-- the tables of what they change of the parent e
+pub record TablesOf (s : Size) (h : Shape) (e : Keyed) (t : Tables) : Type 0 where
+  pub first : t .first ≡ firstTable h (s .n) (e .entry .body .rows)
+  pub second : t .second ≡ secondTable h (s .n) (e .entry .body .rows)
 
 -- the parent that stands at place i, with the weight it had
 abbrev pub parentAt : Size → List ℕ → ℕ → ℕ → Keyed
@@ -45,7 +53,3 @@ branchesBy s threshold r x = cond (liveAt (r .shape) (x .entry .body .loss)) (br
 unfoldable pub branchesUpTo : Size → Float → Arms → (saved w : List ℕ) → ℕ → List Keyed
 branchesUpTo s threshold r saved w zero = []
 branchesUpTo s threshold r saved w (suc i) = branchesUpTo s threshold r saved w i ++ branchesBy s threshold r (parentAt s w i (getD saved i 0))
-
--- no parent has more coefficients than K
-abbrev pub FewCoefficients : Size → ℕ → List ℕ → Type 0
-FewCoefficients s count w = (i : ℕ) → i < count → entryOf s (stretch s w i) .entry .body .count ≤ s .k

@@ -13,7 +13,7 @@ use Rattle.model.specs.Store.{Tally, Split, begun, mergeAll, testedAll, howMany
 use Rattle.model.specs.Channels.{foldedTo}
 use Rattle.model.specs.Calls.{engine}
 use Rattle.model.specs.declared.Size.{Size}
-use Rattle.model.proofs.Packed.{Packed}
+use Rattle.model.specs.Sound.{Packed}
 use Rattle.arms.specs.Arms.{armsList}
 use Rattle.arms.specs.declared.Arms.{Arms}
 use Rattle.merging.specs.Progress.{tallyOf, unweighed}

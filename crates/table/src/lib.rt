@@ -12,7 +12,8 @@ ghost use Rattle.model.specs.Entries.{strip, listed};
 ghost use Rattle.model.specs.Numbers.{weightSound, drawSound};
 ghost use Rattle.model.specs.Table as Table;
 ghost use Rattle.model.specs.Calls as Calls;
-ghost use Rattle.table.specs.Pairs.{pair, pairs, heavier, Falls, Weighted};
+ghost use Rattle.model.specs.Sound.{Sound};
+ghost use Rattle.table.specs.Pairs.{pair, pairs, heavier, Falls};
 
 // ---- the order
 
@@ -52,10 +53,10 @@ fn insert(part: &mut [u64], m: usize, place: u64, weight: u64)
 
 // The listed entries by falling weight, from the last one on: of equal weights the earlier comes first.
 fn put_order(out: &mut [u64], store: &[u64], size: Size, count: usize)
-    requires { ⌜ Weighted size count (now store) × (length (now out) ≡ 2 * count) ⌝ }
+    requires { ⌜ Sound size count (now store) × (length (now out) ≡ 2 * count) ⌝ }
     ensures { λ _. ⌜ pairs count (now (out .exit)) ≡ Table.tableOrder (map strip (listed size count (now (store .entry)))) ⌝ }
 {
-    let len = checks::entry_len(size);
+    let len = entries::entry_len(size);
     let mut i = count;
     while 0 < i {
         i -= 1;
@@ -83,7 +84,7 @@ fn put_totals(out: &mut [u64], m: usize)
 
 // The table of a sound sum.
 fn put_table(out: &mut [u64], store: &[u64], size: Size, count: usize)
-    requires { ⌜ Weighted size count (now store) × (length (now out) ≡ 2 * count) ⌝ }
+    requires { ⌜ Sound size count (now store) × (length (now out) ≡ 2 * count) ⌝ }
     ensures { λ _. ⌜ now (out .exit) ≡ Table.tableWords (map strip (listed size count (now (store .entry)))) ⌝ }
 {
     put_order(out, store, size, count);
@@ -93,26 +94,23 @@ fn put_table(out: &mut [u64], store: &[u64], size: Size, count: usize)
 // THE CALL: the sampling table at the start of `out`, two words an entry: list place, total bits; what stands past it unchanged. 1, 2, 5, 8, 9.
 pub fn table(h: Header, store: &[u64], out: &mut [u64]) -> Answer
     ensures answer { λ r. ⌜ r ≡ Calls.step (Calls.table (length (now (out .entry)))) (Calls.held h (now (store .entry))) .answer ⌝ }
-    ensures output { λ _. ⌜ now (out .exit) ≡ Calls.over (Calls.step (Calls.table (length (now (out .entry)))) (Calls.held h (now (store .entry))) .output) (now (out .entry)) ⌝ }
+    ensures output { λ _. ⌜ now (out .exit) ≡ Calls.overlaid (Calls.step (Calls.table (length (now (out .entry)))) (Calls.held h (now (store .entry))) .output) (now (out .entry)) ⌝ }
 {
     let size = h.size;
     let count = h.count;
-    let number = checks::shape_number(h, store);
+    let number = checks::front(h, store, 0);
     if number != 0 {
-        return checks::plain_answer(h, number);
-    }
-    if !checks::words_sound(h, store) {
-        return checks::plain_answer(h, 5);
+        return answers::plain_answer(h, number);
     }
     let room = 2 * count;
     if out.len() < room {
-        return checks::plain_answer(h, 8);
+        return answers::plain_answer(h, 8);
     }
     if count == 0 {
-        return checks::plain_answer(h, 9);
+        return answers::plain_answer(h, 9);
     }
     put_table(&mut out[0..room], store, size, count);
-    checks::looked_answer(h, 0, room)
+    answers::looked_answer(h, 0, room)
 }
 
 // ---- the pick
@@ -150,7 +148,7 @@ fn pick_from(order: &[u64], m: usize, draw: f64) -> u64
 
 // The pick from a sound sum, with room for its order.
 fn pick_in(order: &mut [u64], store: &[u64], size: Size, count: usize, draw: f64) -> u64
-    requires { ⌜ Weighted size count (now store) × (length (now order) ≡ 2 * count) ⌝ }
+    requires { ⌜ Sound size count (now store) × (length (now order) ≡ 2 * count) ⌝ }
     ensures { λ r. ⌜ r ≡ Table.pickPlace draw (map strip (listed size count (now (store .entry)))) ⌝ }
 {
     put_order(order, store, size, count);
@@ -159,7 +157,7 @@ fn pick_in(order: &mut [u64], store: &[u64], size: Size, count: usize, draw: f64
 
 // The pick from a sound sum.
 fn pick_place(store: &[u64], size: Size, count: usize, draw: f64) -> u64
-    requires { ⌜ Weighted size count (now store) ⌝ }
+    requires { ⌜ Sound size count (now store) ⌝ }
     ensures { λ r. ⌜ r ≡ Table.pickPlace draw (map strip (listed size count (now (store .entry)))) ⌝ }
 {
     let mut order = [0u64; 512];
@@ -173,19 +171,16 @@ pub fn pick(h: Header, store: &[u64], draw: f64) -> Answer
 {
     let size = h.size;
     let count = h.count;
-    let number = checks::shape_number(h, store);
+    let number = checks::front(h, store, 0);
     if number != 0 {
-        return checks::plain_answer(h, number);
-    }
-    if !checks::words_sound(h, store) {
-        return checks::plain_answer(h, 5);
+        return answers::plain_answer(h, number);
     }
     if count == 0 {
-        return checks::plain_answer(h, 9);
+        return answers::plain_answer(h, 9);
     }
     if !draw_sound(draw) {
-        return checks::plain_answer(h, 10);
+        return answers::plain_answer(h, 10);
     }
     let place = pick_place(store, size, count, draw);
-    checks::looked_answer(h, place as usize, 0)
+    answers::looked_answer(h, place as usize, 0)
 }

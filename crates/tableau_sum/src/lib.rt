@@ -11,7 +11,7 @@ ghost use lib.ListN.{length, getD};
 ghost use Rattle.model.specs.Channels.{one, two};
 ghost use Rattle.model.specs.Channels as Channels;
 ghost use Rattle.model.specs.Calls as Calls;
-ghost use Rattle.model.specs.Calls.{held, gave, step, start, over};
+ghost use Rattle.model.specs.Calls.{held, gave, step, start, overlaid};
 
 // ---- a sum begins
 
@@ -25,7 +25,7 @@ pub extern "C" fn tableau_sum_fresh(
 ) -> Answer
     ensures { λ r. ⌜ gave r (now (store .exit)) ≡ start (Calls.fresh size threshold cutoff) (now (store .entry)) ⌝ }
 {
-    sum::fresh(size, threshold, cutoff, store)
+    fresh::fresh(size, threshold, cutoff, store)
 }
 
 // A sum from the text of its sheet, in a store holding any words. 7, 1, 2, 5.
@@ -50,7 +50,7 @@ pub extern "C" fn tableau_sum_pauli_error(
 ) -> Answer
     ensures { λ r. ⌜ gave r (now (store .exit)) ≡ step (Calls.noise (one (Channel.Pauli x y z) q)) (held h (now (store .entry))) ⌝ }
 {
-    channels::channel(h, store, Channel::Pauli(x, y, z), q)
+    noise::channel(h, store, Channel::Pauli(x, y, z), q)
 }
 
 // Qubit q is lost. 1 to 6, 9.
@@ -63,7 +63,7 @@ pub extern "C" fn tableau_sum_loss_channel(
 ) -> Answer
     ensures { λ r. ⌜ gave r (now (store .exit)) ≡ step (Calls.noise (one (Channel.Loss rate) q)) (held h (now (store .entry))) ⌝ }
 {
-    channels::channel(h, store, Channel::Loss(rate), q)
+    noise::channel(h, store, Channel::Loss(rate), q)
 }
 
 // X, Y and Z at qubit q, each with a third of the rate. 1 to 6, 9.
@@ -76,7 +76,7 @@ pub extern "C" fn tableau_sum_depolarize1(
 ) -> Answer
     ensures { λ r. ⌜ gave r (now (store .exit)) ≡ step (Calls.noise (one (Channel.Depolarizing rate) q)) (held h (now (store .entry))) ⌝ }
 {
-    channels::channel(h, store, Channel::Depolarizing(rate), q)
+    noise::channel(h, store, Channel::Depolarizing(rate), q)
 }
 
 // Pairs of Paulis at qubits p and q, which may be the same one, with 15 rates in the order of `PAULI_PAIRS`. 1 to 6, 9.
@@ -90,7 +90,7 @@ pub extern "C" fn tableau_sum_two_qubit_pauli_error(
 ) -> Answer
     ensures { λ r. ⌜ gave r (now (store .exit)) ≡ step (Calls.noise (two (now (rates .entry)) p q)) (held h (now (store .entry))) ⌝ }
 {
-    channels::two_qubit_pauli_error(h, store, *rates, p, q)
+    noise::two_qubit_pauli_error(h, store, *rates, p, q)
 }
 
 // Each of these pairs with a fifteenth of the rate. 1 to 6, 9.
@@ -104,7 +104,7 @@ pub extern "C" fn tableau_sum_depolarize2(
 ) -> Answer
     ensures { λ r. ⌜ gave r (now (store .exit)) ≡ step (Calls.noise (Channels.depolarize2 rate p q)) (held h (now (store .entry))) ⌝ }
 {
-    channels::depolarize2(h, store, rate, p, q)
+    noise::depolarize2(h, store, rate, p, q)
 }
 
 // Entries lost at q become live. 1, 2, 3, 5.
@@ -112,7 +112,7 @@ pub extern "C" fn tableau_sum_depolarize2(
 pub extern "C" fn tableau_sum_reset_loss_channel(h: Header, store: &mut [u64], q: usize) -> Answer
     ensures { λ r. ⌜ gave r (now (store .exit)) ≡ step (Calls.reset q) (held h (now (store .entry))) ⌝ }
 {
-    channels::reset_loss_channel(h, store, q)
+    reset::reset_loss_channel(h, store, q)
 }
 
 // ---- gates
@@ -122,7 +122,7 @@ pub extern "C" fn tableau_sum_reset_loss_channel(h: Header, store: &mut [u64], q
 pub extern "C" fn tableau_sum_h(h: Header, store: &mut [u64], q: usize) -> Answer
     ensures { λ r. ⌜ gave r (now (store .exit)) ≡ step (Calls.gate (Gate.H q)) (held h (now (store .entry))) ⌝ }
 {
-    sum::gate(h, store, Gate::H(q))
+    gates::gate(h, store, Gate::H(q))
 }
 
 // 1, 2, 3, 5.
@@ -130,7 +130,7 @@ pub extern "C" fn tableau_sum_h(h: Header, store: &mut [u64], q: usize) -> Answe
 pub extern "C" fn tableau_sum_s(h: Header, store: &mut [u64], q: usize) -> Answer
     ensures { λ r. ⌜ gave r (now (store .exit)) ≡ step (Calls.gate (Gate.S q)) (held h (now (store .entry))) ⌝ }
 {
-    sum::gate(h, store, Gate::S(q))
+    gates::gate(h, store, Gate::S(q))
 }
 
 // From qubit a to qubit b. 1, 2, 3, 5.
@@ -138,7 +138,7 @@ pub extern "C" fn tableau_sum_s(h: Header, store: &mut [u64], q: usize) -> Answe
 pub extern "C" fn tableau_sum_cnot(h: Header, store: &mut [u64], a: usize, b: usize) -> Answer
     ensures { λ r. ⌜ gave r (now (store .exit)) ≡ step (Calls.gate (Gate.Cnot a b)) (held h (now (store .entry))) ⌝ }
 {
-    sum::gate(h, store, Gate::Cnot(a, b))
+    gates::gate(h, store, Gate::Cnot(a, b))
 }
 
 // ---- weights
@@ -148,7 +148,7 @@ pub extern "C" fn tableau_sum_cnot(h: Header, store: &mut [u64], a: usize, b: us
 pub extern "C" fn tableau_sum_truncate(h: Header, store: &mut [u64]) -> Answer
     ensures { λ r. ⌜ gave r (now (store .exit)) ≡ step Calls.truncate (held h (now (store .entry))) ⌝ }
 {
-    sum::truncate(h, store)
+    weights::truncate(h, store)
 }
 
 // Each weight is divided by the total. 1, 2, 5, 9.
@@ -156,7 +156,7 @@ pub extern "C" fn tableau_sum_truncate(h: Header, store: &mut [u64]) -> Answer
 pub extern "C" fn tableau_sum_normalise(h: Header, store: &mut [u64]) -> Answer
     ensures { λ r. ⌜ gave r (now (store .exit)) ≡ step Calls.normalise (held h (now (store .entry))) ⌝ }
 {
-    sum::normalise(h, store)
+    weights::normalise(h, store)
 }
 
 // ---- calls that only look
@@ -165,7 +165,7 @@ pub extern "C" fn tableau_sum_normalise(h: Header, store: &mut [u64]) -> Answer
 #[no_mangle]
 pub extern "C" fn tableau_sum_table(h: Header, store: &[u64], out: &mut [u64]) -> Answer
     ensures answer { λ r. ⌜ r ≡ step (Calls.table (length (now (out .entry)))) (held h (now (store .entry))) .answer ⌝ }
-    ensures output { λ _. ⌜ now (out .exit) ≡ over (step (Calls.table (length (now (out .entry)))) (held h (now (store .entry))) .output) (now (out .entry)) ⌝ }
+    ensures output { λ _. ⌜ now (out .exit) ≡ overlaid (step (Calls.table (length (now (out .entry)))) (held h (now (store .entry))) .output) (now (out .entry)) ⌝ }
 {
     table::table(h, store, out)
 }
@@ -182,7 +182,7 @@ pub extern "C" fn tableau_sum_pick(h: Header, store: &[u64], draw: f64) -> Answe
 #[no_mangle]
 pub extern "C" fn tableau_sum_write_sheet(h: Header, store: &[u64], out: &mut [u8]) -> Answer
     ensures answer { λ r. ⌜ r ≡ step (Calls.sheet (length (now (out .entry)))) (held h (now (store .entry))) .answer ⌝ }
-    ensures output { λ _. ⌜ now (out .exit) ≡ over (step (Calls.sheet (length (now (out .entry)))) (held h (now (store .entry))) .output) (now (out .entry)) ⌝ }
+    ensures output { λ _. ⌜ now (out .exit) ≡ overlaid (step (Calls.sheet (length (now (out .entry)))) (held h (now (store .entry))) .output) (now (out .entry)) ⌝ }
 {
     sheet::write_sheet(h, store, out)
 }

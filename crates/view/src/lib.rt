@@ -38,18 +38,12 @@ pub fn view_answer(h: Header, store: &[u64], place: usize) -> Answer
     ensures { λ r. ⌜ r ≡ Calls.step (Calls.view place) (Calls.held h (now (store .entry))) .answer ⌝ }
 {
     let size = h.size;
-    let count = h.count;
-    let number = checks::shape_number(h, store);
+    let own = checks::test(3, h.count <= place);
+    let number = checks::front(h, store, own);
     if number != 0 {
-        return checks::plain_answer(h, number);
+        return answers::plain_answer(h, number);
     }
-    if count <= place {
-        return checks::plain_answer(h, 3);
-    }
-    if !checks::words_sound(h, store) {
-        return checks::plain_answer(h, 5);
-    }
-    checks::looked_answer(h, 0, checks::entry_len(size))
+    answers::looked_answer(h, 0, entries::entry_len(size))
 }
 
 // The words that it shows: exactly the entry's stretch. A refused view has length 0, and so shows none.
@@ -182,8 +176,8 @@ pub fn word_key<'a>(v: EntryView<'a>) -> u64
     word_at(v.words, 2)
 }
 
-pub fn phase_key<'a>(v: EntryView<'a>) -> u64
-    ensures { λ r. ⌜ r ≡ seen (v .entry) .phaseKey ⌝ }
+pub fn phase_loss_key<'a>(v: EntryView<'a>) -> u64
+    ensures { λ r. ⌜ r ≡ seen (v .entry) .phaseLossKey ⌝ }
 {
     word_at(v.words, 3)
 }

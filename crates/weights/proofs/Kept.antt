@@ -2,22 +2,21 @@
 use mathlib.Core.Path.{_≡_, refl, sym, ap, _∙_}
 use mathlib.Core.Bool.{Bool, true, false}
 use mathlib.Core.List.{List}
-use Prim.Native.Nat.{ℕ, _+_, _*_, _-_, _≤_, _<_}
+use Prim.Native.Nat.{ℕ, _+_, _*_, _≤_, _<_}
 use native.Mathlib.Omega.{arith}
 use lib.Ieee.{Float, lt}
-use lib.ListN.{length, getD, set, replicate}
-use borrow.Rule.Slice.PartMut.{putMid, midOf, mid-len}
+use lib.ListN.{length, take, getD, set}
 use Rattle.model.specs.Floats.{float}
 use Rattle.model.specs.Entries.{Keyed, entryLen, listed}
 use Rattle.model.specs.Store.{keyedWeighed, weightOf, aboveCutoff}
 use Rattle.model.specs.Sum.{kept}
 use Rattle.model.specs.declared.Size.{Size}
 use Rattle.model.proofs.Entries.{length-listed}
-use Rattle.model.proofs.Packed.{Packed, within}
-use Rattle.weights.specs.Holds.{Holds}
+use Rattle.model.specs.Sound.{Packed}
+use Rattle.entries.specs.Holds.{Holds}
+use Rattle.entries.proofs.Slots.{nothing}
 use Rattle.weights.proofs.Lists.{keptFrom, moved, left-behind, all-passed}
-use Rattle.weights.proofs.Weights.{nothing, weight-at}
-use Rattle.weights.proofs.Moved.{emptied-entries}
+use Rattle.weights.proofs.Weights.{weight-at}
 
 abbrev pub stays : Float → Keyed → Bool
 stays cutoff x = aboveCutoff cutoff (weightOf keyedWeighed x)
@@ -54,13 +53,7 @@ module _ {cutoff : Float} {s : Size} {count : ℕ} {w₀ : List ℕ} where
     one-gone t = record { packed = k .packed; entries = left-behind (stays cutoff) (listed s count w) i (nothing s) here j (judged t) ∙ k .entries }
 
   -- all passed, and the slots past those kept emptied
-  pub all-kept : {j i len : ℕ} {w x : List ℕ} → Keeping cutoff s count w₀ j i w → count ≤ i → j ≤ count → len ≡ entryLen s → x ≡ replicate (length (midOf (j * len) (count * len - j * len) w)) 0
-      → Holds s j (kept keyedWeighed cutoff (listed s count w₀)) (putMid (j * len) (count * len - j * len) w x)
-  all-kept {j} {i} {len} {w} {x} k h g e z =
-      let f : count * len ≤ length w = rw e (within s count w (k .packed)) in
-      let m = emptied-entries (k .packed) g in
-      rw (z ∙ ap (λ (n : ℕ). replicate n 0) (mid-len (j * len) (count * len) w f), e)
-      (record {
-        packed = m .packed;
-        entries = m .entries ∙ sym (all-passed (stays cutoff) (listed s count w) i j (omega (arith, length-listed s count w))) ∙ k .entries;
-      })
+  pub all-kept : {j i : ℕ} {w v : List ℕ} → Keeping cutoff s count w₀ j i w → count ≤ i → Packed s j v → listed s j v ≡ take j (listed s count w)
+      → Holds s j (kept keyedWeighed cutoff (listed s count w₀)) v
+  all-kept {j} {i} {w} {v} k h p e =
+      record { packed = p; entries = e ∙ sym (all-passed (stays cutoff) (listed s count w) i j (omega (arith, length-listed s count w))) ∙ k .entries }

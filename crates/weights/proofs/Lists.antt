@@ -1,9 +1,9 @@
--- Laws of any list that a loop changes in place, or keeps a part of. Assumes nothing.
+-- Laws of any list of which a loop keeps a part. Assumes nothing.
 use mathlib.Core.Path.{_≡_, refl, sym, ap}
 use mathlib.Core.Bool.{Bool, true, false, cond}
-use mathlib.Core.List.{List, [], _∷_, _++_, map, append-nil}
-use Prim.Native.Nat.{ℕ, zero, suc, _+_, _≤_, _<_}
-use native.Mathlib.Nat.{not-suc-le-zero, le-of-suc-le-suc, le-refl}
+use mathlib.Core.List.{List, [], _∷_, _++_, append-nil}
+use Prim.Native.Nat.{ℕ, suc, _+_, _≤_, _<_}
+use native.Mathlib.Nat.{not-suc-le-zero, le-refl}
 use native.Mathlib.Numerals.{add-one}
 use native.Mathlib.Omega.{arith}
 use lib.ListN.{length, take, drop, getD, set, drop-of-length-le}
@@ -15,21 +15,6 @@ module _ {A : Type 0} where
   unfolding isEmpty
   not-empty [] h = absurd (not-suc-le-zero h)
   not-empty (x ∷ l) h = refl
-
-  -- A loop that puts `f x` for each x, in place, has done i of them: what is left to do gives the whole. A turn keeps that.
-  abbrev pub mapFrom : (A → A) → ℕ → List A → List A
-  mapFrom f i l = take i l ++ map f (drop i l)
-
-  pub mapFrom-step : (f : A → A) (i : ℕ) (l : List A) (d : A) → i < length l → mapFrom f (suc i) (set l i (f (getD l i d))) ≡ mapFrom f i l
-  mapFrom-step f i [] d h = absurd (not-suc-le-zero h)
-  mapFrom-step f zero (x ∷ xs) d h = refl
-  mapFrom-step f (suc i) (x ∷ xs) d h = ap {B = List A} (λ r. x ∷ r) (mapFrom-step f i xs d (le-of-suc-le-suc h))
-
-  pub mapFrom-all : (f : A → A) (i : ℕ) (l : List A) → length l ≤ i → mapFrom f i l ≡ l
-  mapFrom-all f zero [] h = refl
-  mapFrom-all f (suc i) [] h = refl
-  mapFrom-all f zero (x ∷ xs) h = absurd (not-suc-le-zero h)
-  mapFrom-all f (suc i) (x ∷ xs) h = ap {B = List A} (λ r. x ∷ r) (mapFrom-all f i xs (le-of-suc-le-suc h))
 
 module _ {A : Type 0} (p : A → Bool) where
   -- A loop that moves what it keeps to the front has passed i of them and kept j: with what is kept of the rest these are the whole.

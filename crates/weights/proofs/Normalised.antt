@@ -12,8 +12,9 @@ use Rattle.model.specs.Store.{keyedWeighed}
 use Rattle.model.specs.Sum.{total, dividedBy, normalised}
 use Rattle.model.specs.declared.Size.{Size}
 use Rattle.model.proofs.Entries.{length-listed}
-use Rattle.model.proofs.Packed.{Packed}
-use Rattle.weights.specs.Holds.{Holds, Normalised}
+use Rattle.model.specs.Sound.{Packed}
+use Rattle.entries.specs.Holds.{Holds}
+use Rattle.weights.specs.Outcomes.{Normalised}
 use Rattle.weights.proofs.Lists.{not-empty}
 
 module _ {s : Size} {count : ℕ} {w : List ℕ} (p : Packed s count w) where

@@ -13,7 +13,8 @@ use Rattle.model.specs.Store.{keyedWeighed}
 use Rattle.model.specs.Sum.{done, refused, normalised, kept, truncated}
 use Rattle.model.specs.declared.Size.{Size}
 use Rattle.model.proofs.Entries.{length-listed}
-use Rattle.weights.specs.Holds.{Holds, Normalised, Truncated}
+use Rattle.entries.specs.Holds.{Holds}
+use Rattle.weights.specs.Outcomes.{Normalised, Truncated}
 use Rattle.weights.proofs.Lists.{none-went}
 use Rattle.weights.proofs.Kept.{stays}
 use Rattle.weights.proofs.AboveZero.{kept-divides}

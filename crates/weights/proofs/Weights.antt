@@ -1,6 +1,6 @@
 -- Laws of the weights in a store's words. Assumes nothing.
 use mathlib.Core.Path.{_≡_, sym, ap, _∙_}
-use mathlib.Core.List.{List, [], _∷_, map}
+use mathlib.Core.List.{List, [], _∷_}
 use Prim.Native.Nat.{ℕ, _+_, _*_, _≤_, _<_}
 use native.Mathlib.Nat.{add-zero, not-suc-le-zero}
 use native.Mathlib.Numerals.{add-one}
@@ -13,28 +13,12 @@ use Rattle.model.specs.Entries.{Keyed, headLen, coefsLen, entryLen, entryOf, st
 use Rattle.model.specs.Store.{keyedWeighed, weightOf, reweighed}
 use Rattle.model.specs.Sum.{addedTo, dividedBy}
 use Rattle.model.specs.declared.Size.{Size}
-use Rattle.model.proofs.Groups.{stride-le}
 use Rattle.model.proofs.Entries.{length-listed, listed-at, length-stretch}
-use Rattle.model.proofs.Packed.{Packed, within, set-listed, set-packed}
-use Rattle.weights.specs.Holds.{Holds}
-use Rattle.checks.specs.Sized.{Within}
-use Rattle.weights.proofs.Lists.{mapFrom, mapFrom-step, mapFrom-all}
-
--- a packed store's size is within its limits
-pub in-limits : {s : Size} {count : ℕ} {w : List ℕ} → Packed s count w → Within s
-in-limits p = record { qubits = p .sized .qubits .high; coefficients = p .sized .coefficients .high }
-
--- packed stores of one size are as long
-pub as-long : {s : Size} {m n : ℕ} {v w : List ℕ} → Packed s m v → Packed s n w → length v ≡ length w
-as-long p q = p .sized .words ∙ sym (q .sized .words)
-
--- any entry: what stands past the listed ones
-abbrev pub nothing : Size → Keyed
-nothing s = entryOf s []
-
--- the words of the listed entries stand in the store: entry i's first one does
-pub first-within : {s : Size} {count i len : ℕ} {w : List ℕ} → Packed s count w → len ≡ entryLen s → i < count → i * len < length w
-first-within {s} {count} {i} {len} {w} p e h = rw e (omega (arith, stride-le (entryLen s) i count h, within s count w p))
+use Rattle.model.specs.Sound.{Packed}
+use Rattle.model.proofs.Packed.{within, set-listed, set-packed}
+use Rattle.entries.specs.Holds.{Holds}
+use Rattle.entries.proofs.Slots.{nothing}
+use Rattle.entries.proofs.Turns.{Done, next}
 
 -- another weight is another first word
 pub reweighed-words : (s : Size) (e : List ℕ) (v : ℕ) → 0 < length e → entryOf s (set e 0 v) ≡ reweighed keyedWeighed v (entryOf s e)
@@ -81,30 +65,15 @@ added-all s count i w t h =
     let g : length (listed s count w) ≤ i = omega (arith, length-listed s count w) in
     rw (drop-of-length-le (listed s count w) g)
 
--- A loop that divides each weight of w₀ has done i of them, and has w: what is left to divide gives the whole.
-pub record Dividing (by : Float) (s : Size) (count : ℕ) (w₀ : List ℕ) (i : ℕ) (w : List ℕ) : Type 0 where
-  pub packed : Packed s count w
-  pub entries : mapFrom (dividedBy keyedWeighed by) i (listed s count w) ≡ map (dividedBy keyedWeighed by) (listed s count w₀)
-
-module _ {by : Float} {s : Size} {count : ℕ} {w₀ : List ℕ} where
-  pub divided-step : {i : ℕ} {w : List ℕ} → Dividing by s count w₀ i w → i < count → Dividing by s count w₀ (i + 1) (set w (i * entryLen s) (bits (over (float (getD w (i * entryLen s) 0)) by)))
-  unfolding dividedBy
-  divided-step {i} {w} d h =
-      let l = listed s count w in
-      let g : i < length l = omega (arith, length-listed s count w) in
-      let u = weight-written s count i w h (d .packed) (bits (over (float (getD w (i * entryLen s) 0)) by)) in
-      record {
-        packed = u .packed;
-        entries =
-            ap (mapFrom (dividedBy keyedWeighed by) (i + 1)) (u .entries ∙ ap (λ (v : ℕ). set l i (reweighed keyedWeighed (bits (over (float v) by)) (getD l i (nothing s)))) (sym (weight-at s count i w h)))
-            ∙ ap (λ (k : ℕ). mapFrom (dividedBy keyedWeighed by) k (set l i (dividedBy keyedWeighed by (getD l i (nothing s))))) (add-one i)
-            ∙ mapFrom-step (dividedBy keyedWeighed by) i l (nothing s) g
-            ∙ d .entries;
-      }
-
-  pub divided-all : {i : ℕ} {w : List ℕ} → Dividing by s count w₀ i w → count ≤ i → Holds s count (map (dividedBy keyedWeighed by) (listed s count w₀)) w
-  divided-all {i} {w} d h =
-      record {
-        packed = d .packed;
-        entries = sym (mapFrom-all (dividedBy keyedWeighed by) i (listed s count w) (omega (arith, length-listed s count w))) ∙ d .entries;
-      }
+-- a turn of the division
+pub divided : (by : Float) {s : Size} {count i : ℕ} {w₀ w : List ℕ} → Done s count (λ k. dividedBy keyedWeighed by) i w₀ w → i < count
+    → Done s count (λ k. dividedBy keyedWeighed by) (i + 1) w₀ (set w (i * entryLen s) (bits (over (float (getD w (i * entryLen s) 0)) by)))
+unfolding dividedBy
+divided by {s} {count} {i} {w₀} {w} d h =
+    let l = listed s count w in
+    let u = weight-written s count i w h (d .packed) (bits (over (float (getD w (i * entryLen s) 0)) by)) in
+    next s count (λ k. dividedBy keyedWeighed by) w₀ i h d
+    record {
+      packed = u .packed;
+      entries = u .entries ∙ ap (λ (v : ℕ). set l i (reweighed keyedWeighed (bits (over (float v) by)) (getD l i (nothing s)))) (sym (weight-at s count i w h));
+    }

@@ -1,1 +1,1 @@
-pub mod Holds
+pub mod Outcomes

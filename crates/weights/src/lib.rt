@@ -1,17 +1,19 @@
 // Normalise and truncate: document 01, point 4. An entry's weight has its bits in the first of the entry's words.
+mod calls;
+
+pub use calls::normalise;
+pub use calls::truncate;
 use model::Size;
 ghost use mathlib.Core.Path.{_≡_};
 ghost use mathlib.Core.Bool.{true};
-ghost use mathlib.Core.List.{[], map};
-ghost use Prim.Native.Nat.{_<_, _≤_};
-ghost use lib.ListN.{getD, set};
+ghost use mathlib.Core.List.{map};
 ghost use Rattle.model.specs.Floats.{finiteFromZero};
-ghost use Rattle.model.specs.Entries.{entryOf, listed};
+ghost use Rattle.model.specs.Entries.{listed};
 ghost use Rattle.model.specs.Store.{keyedWeighed};
 ghost use Rattle.model.specs.Sum.{total, dividedBy, kept};
-ghost use Rattle.model.specs.Calls as Calls;
-ghost use Rattle.model.proofs.Packed.{Packed};
-ghost use Rattle.weights.specs.Holds.{Holds, Normalised, Truncated};
+ghost use Rattle.model.specs.Sound.{Packed};
+ghost use Rattle.entries.specs.Holds.{Holds};
+ghost use Rattle.weights.specs.Outcomes.{Normalised, Truncated};
 
 // ---- normalise
 
@@ -20,7 +22,7 @@ pub fn weights_total(store: &[u64], size: Size, count: usize) -> f64
     requires { ⌜ Packed size count (now store) ⌝ }
     ensures { λ r. ⌜ r ≡ total keyedWeighed (listed size count (now (store .entry))) ⌝ }
 {
-    let len = checks::entry_len(size);
+    let len = entries::entry_len(size);
     let mut sum = 0.0;
     let mut i = 0;
     while i < count {
@@ -35,7 +37,7 @@ pub fn divide_weights(store: &mut [u64], size: Size, count: usize, by: f64)
     requires { ⌜ Packed size count (now store) ⌝ }
     ensures { λ _. ⌜ Holds size count (map (dividedBy keyedWeighed by) (listed size count (now (store .entry)))) (now (store .exit)) ⌝ }
 {
-    let len = checks::entry_len(size);
+    let len = entries::entry_len(size);
     let mut i = 0;
     while i < count {
         let at = i * len;
@@ -63,43 +65,23 @@ pub fn normalise_entries(store: &mut [u64], size: Size, count: usize) -> bool
 
 // ---- truncate
 
-// The entry at place `from` written over the one at place `to`: all its words, so its keys move with it.
-pub fn move_entry(store: &mut [u64], size: Size, count: usize, from: usize, to: usize)
-    requires { ⌜ Packed size count (now store) × (from < count) × (to ≤ from) ⌝ }
-    ensures { λ _. ⌜ Holds size count (set (listed size count (now (store .entry))) to (getD (listed size count (now (store .entry))) from (entryOf size []))) (now (store .exit)) ⌝ }
-{
-    if from == to {
-        return;
-    }
-    let len = checks::entry_len(size);
-    let a = from * len;
-    let b = to * len;
-    let mut k = 0;
-    while k < len {
-        store[b + k] = store[a + k];
-        k += 1;
-    }
-}
-
 // The entries whose weight is above the cutoff, moved to the front in list order. The slots past them are emptied. Their number is the answer.
 fn keep_above(store: &mut [u64], size: Size, count: usize, cutoff: f64) -> usize
     requires { ⌜ Packed size count (now store) ⌝ }
     ensures { λ r. ⌜ Holds size r (kept keyedWeighed cutoff (listed size count (now (store .entry)))) (now (store .exit)) ⌝ }
 {
-    let len = checks::entry_len(size);
+    let len = entries::entry_len(size);
     let mut j = 0;
     let mut i = 0;
     while i < count {
         let weight = words::float_of(store[i * len]);
         if cutoff < weight {
-            move_entry(store, size, count, i, j);
+            entries::move_entry(store, size, count, i, j);
             j += 1;
         }
         i += 1;
     }
-    let at = j * len;
-    let end = count * len;
-    words::clear(&mut store[at..end]);
+    entries::clear_from(store, size, j, count);
     j
 }
 

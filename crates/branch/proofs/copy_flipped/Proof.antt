@@ -6,7 +6,7 @@ use native.Mathlib.Nat.{sub-zero}
 use native.Mathlib.Omega.{arith}
 use lib.ListN.{length, drop, length-set}
 use Rattle.model.specs.declared.BranchMutation.{BranchMutation}
-use Rattle.keys.specs.Changes.{flipBits}
+use Rattle.changes.specs.Changes.{flipBits}
 use Rattle.branch.specs.Flips.{flippedRows}
 use Rattle.branch.specs.Onto.{onto}
 use Rattle.branch.proofs.Flips.{bit-twice, first-left, rest-left}

@@ -1,7 +1,7 @@
 -- `branch::copy_rows` meets its contract: where no bit is set the rows are copied as they are, which is what the mutation leaves; else in two
 -- parts. Assumes nothing.
 use native.Mathlib.Omega.{arith}
-use Rattle.keys.proofs.ChangeTables.{low-few}
+use Rattle.changes.proofs.ChangeTables.{low-few}
 use Rattle.branch.proofs.Kept.{copied-unflipped}
 use Rattle.branch.proofs.Parts.{first-bits, second-bits, both-copied}
 use borrow.Author.Needs.{needs}

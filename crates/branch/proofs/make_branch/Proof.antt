@@ -72,7 +72,7 @@ returns c =
     let s = c .before .before .before .before .before .before .before .before .before .before .before .before .before .before .before in
     let a = s .args in
     let e = c .before .before .before .before .before .before .before .before .before .before .before .before .before .entry-len .ensures in
-    made-in-slot (a .size) (a .m) (a .weight) (a .c) (a .i) (a .slot) (now (a .store)) (s .pre .1) (s .pre .2) (s .pre .0 .qubits) (s .pre .4) (rw e at (c .before .before .before .before .before .before .before .before .before .before .make-head .ensures))
+    made-in-slot (a .size) (a .m) (a .weight) (a .c) (a .i) (a .slot) (now (a .store)) (s .pre .1) (s .pre .2) (s .pre .4) (rw e at (c .before .before .before .before .before .before .before .before .before .before .make-head .ensures))
     (rw e at (c .before .before .before .before .before .before .copy-part .ensures)) (rw e at (c .before .before .copy-rows .ensures (a .m)))
 
 pub make-branch-spec : {M : Type 1} → statement M

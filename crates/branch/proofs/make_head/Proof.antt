@@ -29,14 +29,14 @@ mul-word-key c = search needs
 slice-read-word-key : tie.Need-slice-read-word-key
 slice-read-word-key c = search needs
 
-add-phase-key : tie.Need-add-phase-key
-add-phase-key c = search needs
+add-phase-loss-key : tie.Need-add-phase-loss-key
+add-phase-loss-key c = search needs
 
-mul-phase-key : tie.Need-mul-phase-key
-mul-phase-key c = search needs
+mul-phase-loss-key : tie.Need-mul-phase-loss-key
+mul-phase-loss-key c = search needs
 
-slice-read-phase-key : tie.Need-slice-read-phase-key
-slice-read-phase-key c = search needs
+slice-read-phase-loss-key : tie.Need-slice-read-phase-loss-key
+slice-read-phase-loss-key c = search needs
 
 add-coefficients : tie.Need-add-coefficients
 add-coefficients c = search needs
@@ -113,9 +113,9 @@ make-head-spec =
     add-word-key
     mul-word-key
     slice-read-word-key
-    add-phase-key
-    mul-phase-key
-    slice-read-phase-key
+    add-phase-loss-key
+    mul-phase-loss-key
+    slice-read-phase-loss-key
     add-coefficients
     mul-coefficients
     slice-read-coefficients

@@ -9,7 +9,7 @@ use lib.Dec.{eqb}
 use Rattle.model.specs.Lists.{allBelow}
 use Rattle.model.specs.declared.BranchMutation.{BranchMutation}
 use Rattle.model.proofs.Lists.{all-none}
-use Rattle.keys.specs.Changes.{flipBits}
+use Rattle.changes.specs.Changes.{flipBits}
 use Rattle.branch.proofs.Flips.{bit-twice, first-left, rest-left}
 use Rattle.branch.proofs.Same.{sameAt, row-next}
 use Rattle.branch.proofs.same_flipped.Statement.{statement}

@@ -9,8 +9,8 @@ use Rattle.calls.proofs.make.Statement.{statement}
 use Rattle.calls.proofs.make.Tie as tie
 
 -- what the call of an instruction leaves of what is given
-abbrev left : tie.After-slice-known → Act → Left
-left c act = let a = c .before .args in step (callOf act (a .rates) (a .p) (a .q)) (held (a .h) (now (a .store)))
+abbrev left : tie.After-rates → Act → Left
+left c act = let a = c .before .before .args in let o = a .o in step (callOf act (o .rates) (o .p) (o .q)) (held (a .h) (now (a .store)))
 
 enum-told : tie.Need-enum-told
 enum-told c = search needs

@@ -5,6 +5,7 @@ use Prim.Native.Nat.{ℕ}
 use borrow.Author.Needs.{needs}
 use Rattle.model.specs.Lists.{every}
 use Rattle.model.specs.Numbers.{rates}
+use Rattle.model.specs.Calls.{kindOf}
 use Rattle.model.proofs.Lists.{and-true}
 use Rattle.circuit.specs.declared.lines.Act.{Act}
 use Rattle.calls.specs.Instructions.{callOf, soundRates}
@@ -66,6 +67,7 @@ enum-told-5 : tie.Need-enum-told-5
 enum-told-5 c = search needs
 
 returns : tie.Need-returns
+unfolding kindOf
 returns c = λ p q.
     let a = c .before in
     let n = a .before in
@@ -74,7 +76,7 @@ returns c = λ p q.
     (not-refused (c .rates-refused .ensures _ (a .channel-arms .ensures) (n .named-rates-sound .ensures)) ∙ one-anywhere _ 0 p)
 
 returns-2 : tie.Need-returns-2
-unfolding rates
+unfolding kindOf rates
 returns-2 c = λ p q.
     let a = c .before in
     let n = a .before in
@@ -83,7 +85,7 @@ returns-2 c = λ p q.
     (not-refused (c .rates-refused2 .ensures _ (a .pair-arms .ensures) (n .all-rates-sound .ensures)) ∙ two-anywhere _ 0 0 p q)
 
 returns-3 : tie.Need-returns-3
-unfolding every rates
+unfolding kindOf every rates
 returns-3 c = λ p q.
     let a = c .before in
     let n = a .before in
@@ -93,15 +95,19 @@ returns-3 c = λ p q.
     ∙ depolarize2-anywhere _ 0 0 p q)
 
 returns-4 : tie.Need-returns-4
+unfolding kindOf
 returns-4 c = λ p q. matched (sound (c .before .before) p q) (c .enum-told2 .given .1) refl
 
 returns-5 : tie.Need-returns-5
+unfolding kindOf
 returns-5 c = λ p q. matched (sound (c .before .before) p q) (c .enum-told3 .given .1) refl
 
 returns-6 : tie.Need-returns-6
+unfolding kindOf
 returns-6 c = λ p q. matched (sound (c .before .before) p q) (c .enum-told4 .given .1) refl
 
 returns-7 : tie.Need-returns-7
+unfolding kindOf
 returns-7 c = λ p q. matched (sound (c .before .before) p q) (c .enum-told5 .given .1) refl
 
 pub rates-sound-spec : {M : Type 1} → statement M

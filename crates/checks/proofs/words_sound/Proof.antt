@@ -1,16 +1,15 @@
 -- `checks::words_sound` meets its contract. Assumes nothing.
-use mathlib.Core.Path.{_≡_, sym, ap, _∙_}
-use mathlib.Core.Bool.{Bool, _&&_}
+use mathlib.Core.Path.{_≡_, ap, _∙_}
 use Prim.Native.Nat.{ℕ, _*_, _≤_}
 use lib.ListN.{length, drop}
 use native.Mathlib.Omega.{arith}
 use borrow.Author.Needs.{needs}
-use Rattle.model.specs.Entries.{entryLen, pastCount}
+use Rattle.model.specs.Entries.{pastCount}
 use Rattle.model.specs.Numbers.{allZero}
-use Rattle.model.specs.Calls.{held, padded}
+use Rattle.model.specs.Calls.{held, zerosPast}
 use Rattle.model.proofs.Entries.{part-tail}
 use Rattle.model.proofs.Shape.{Shaped, shaped, listed-within}
-use Rattle.checks.specs.Sized.{Within}
+use Rattle.entries.specs.Within.{Within}
 use Rattle.checks.proofs.words_sound.Statement.{statement}
 use Rattle.checks.proofs.words_sound.Tie as tie
 
@@ -24,7 +23,7 @@ within c = record { qubits = shape-of c .size .qubits .high; coefficients = shap
 past : (c : tie.After-entry-len) → c .before .before .before .args .h .count * c .entry-len .result ≤ length (c .before .before .before .args .store .now)
 past c = rw (c .entry-len .ensures) (listed-within _ (shape-of (c .before .before .before)))
 
-padded-is : (c : tie.After-all-zero) → c .all-zero .result ≡ padded (held (c .before .before .before .before .before .args .h) (c .before .before .before .before .before .args .store .now))
+padded-is : (c : tie.After-all-zero) → c .all-zero .result ≡ zerosPast (held (c .before .before .before .before .before .args .h) (c .before .before .before .before .before .args .store .now))
 unfolding pastCount
 padded-is c =
     let a = c .before .before .before .before .before .args in

@@ -1,8 +1,7 @@
 -- `drops::call` meets its contract. Assumes nothing.
 use mathlib.Core.Path.{_∙_}
 use denote.Ref.{now}
-use Rattle.model.specs.Calls.{Lent, held, noise, step}
-use Rattle.noise.specs.Finish.{ranBy}
+use Rattle.model.specs.Calls.{Lent, held, noise, step, acted}
 use Rattle.drops.specs.Lost.{noiseTaken, noiseLost}
 use Rattle.drops.proofs.Taken.{refused-takes, passed-takes}
 use borrow.Author.Needs.{needs}
@@ -30,7 +29,7 @@ unfolding noiseLost
 returns c = λ n h m.
     let t = c .before .before in
     let x = given t in
-    c .nothing .ensures ∙ refused-takes x (t .noise-number .result) (step (noise n) x) (ranBy n x) (t .noise-number .ensures .1 n h m) (noiseTaken n x) (c .before .if1 .taken)
+    c .nothing .ensures ∙ refused-takes x (t .noise-number .result) (step (noise n) x) (acted (noise n) x) (t .noise-number .ensures .1 n h m) (noiseTaken n x) (c .before .if1 .taken)
 
 run-requires : tie.Need-run-requires
 run-requires c κs = let t = c .before .before in t .noise-number .ensures .0 (c .before .if1 .left)
@@ -44,7 +43,7 @@ returns-2 c = λ n h m.
     let e = c .before .before .before .before in
     let t = e .before in
     let x = given t in
-    c .before .before .run .ensures n h ∙ passed-takes x (t .noise-number .result) (step (noise n) x) (ranBy n x) (t .noise-number .ensures .1 n h m) (noiseTaken n x) (e .if1 .left)
+    c .before .before .run .ensures n h ∙ passed-takes x (t .noise-number .result) (step (noise n) x) (acted (noise n) x) (t .noise-number .ensures .1 n h m) (noiseTaken n x) (e .if1 .left)
 
 pub call-spec : {M : Type 1} → statement M
 call-spec =

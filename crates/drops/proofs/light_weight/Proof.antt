@@ -7,7 +7,7 @@ use lib.ListN.{length, drop}
 use Rattle.model.specs.Entries.{entryLen, listed}
 use Rattle.model.specs.Sum.{total}
 use Rattle.model.specs.declared.Size.{Size}
-use Rattle.weights.proofs.Weights.{in-limits, first-within}
+use Rattle.entries.proofs.Slots.{in-limits, first-within}
 use Rattle.drops.specs.Lost.{lightWeight}
 use Rattle.drops.proofs.Light.{lightAdded, light-step, light-all}
 use Rattle.drops.proofs.light_weight.Statement.{statement}

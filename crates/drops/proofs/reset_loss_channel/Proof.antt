@@ -1,8 +1,7 @@
 -- `drops::reset_loss_channel` meets its contract. Assumes nothing.
 use mathlib.Core.Path.{_∙_}
 use denote.Ref.{now}
-use Rattle.model.specs.Calls.{Lent, held, reset, step}
-use Rattle.reset.specs.Return.{resetBy}
+use Rattle.model.specs.Calls.{Lent, held, reset, step, acted}
 use Rattle.drops.specs.Lost.{resetTaken, resetLost}
 use Rattle.drops.proofs.Taken.{refused-takes, passed-takes, reset-done}
 use borrow.Author.Needs.{needs}
@@ -31,7 +30,7 @@ returns c =
     let t = c .before .before in
     let x = given t in
     let q = start t .args .q in
-    c .nothing .ensures ∙ refused-takes x (t .reset-number .result) (step (reset q) x) (resetBy q x) (t .reset-number .ensures .1) (resetTaken q x) (c .before .if1 .taken)
+    c .nothing .ensures ∙ refused-takes x (t .reset-number .result) (step (reset q) x) (acted (reset q) x) (t .reset-number .ensures .1) (resetTaken q x) (c .before .if1 .taken)
 
 run-reset-requires : tie.Need-run-reset-requires
 run-reset-requires c κs = let t = c .before .before in t .reset-number .ensures .0 (c .before .if1 .left)
@@ -48,7 +47,7 @@ returns-2 c =
     let q = start t .args .q in
     c .before .before .run-reset .ensures
     ∙ reset-done x q
-    ∙ passed-takes x (t .reset-number .result) (step (reset q) x) (resetBy q x) (t .reset-number .ensures .1) (resetTaken q x) (e .if1 .left)
+    ∙ passed-takes x (t .reset-number .result) (step (reset q) x) (acted (reset q) x) (t .reset-number .ensures .1) (resetTaken q x) (e .if1 .left)
 
 pub reset-loss-channel-spec : {M : Type 1} → statement M
 reset-loss-channel-spec =

@@ -9,6 +9,7 @@ use Rattle.model.specs.Calls.{Lent, held}
 use Rattle.spread.specs.Spread.{Spread}
 use Rattle.noise.specs.Finish.{readied}
 use Rattle.drops.proofs.Taken.{lost, full-takes, nought-takes, takes}
+use Rattle.model.proofs.Sound.{sound-few}
 use borrow.Author.Needs.{needs}
 use Rattle.drops.proofs.run.Statement.{statement}
 use Rattle.drops.proofs.run.Tie as tie
@@ -47,7 +48,7 @@ spreads c =
 -- ---- the needs
 
 ready-requires : tie.Need-ready-requires
-ready-requires c κs = search needs
+ready-requires c κs = let b = c .before .before .before in (b .pre .sound .packed, sound-few _ _ _ (b .pre .sound))
 
 weights-total-requires : tie.Need-weights-total-requires
 weights-total-requires c κs = search needs
@@ -89,7 +90,7 @@ returns-2 c = λ n h.
     let y = from-total t in
     let b = from-ready y in
     ap₂ lost (d .dropped-from .ensures) (c .light-weight .ensures)
-    ∙ takes (given b) (b .args .arms) n h (p .spread .result) _ (spreads p) (e .if1 .left) _ (rw (z .if2 .taken) at (z .before .before .before .renormalise .ensures)) (t .weights-total .result) (t .weights-total .ensures ∙ ap (total keyedWeighed) (y .ready .ensures .2)) (b .pre .0 .2)
+    ∙ takes (given b) (b .args .arms) n h (p .spread .result) _ (spreads p) (e .if1 .left) _ (rw (z .if2 .taken) at (z .before .before .before .renormalise .ensures)) (t .weights-total .result) (t .weights-total .ensures ∙ ap (total keyedWeighed) (y .ready .ensures .2)) (b .pre .cutoff)
 
 nothing-requires-2 : tie.Need-nothing-requires-2
 nothing-requires-2 c κs = search needs

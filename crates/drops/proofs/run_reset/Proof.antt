@@ -4,7 +4,7 @@ use denote.Ref.{now}
 use lib.Ieee.{Float}
 use Rattle.model.specs.Floats.{float, zeroBits}
 use Rattle.model.specs.Calls.{Lent, held}
-use Rattle.reset.proofs.Leaves.{still-few}
+use Rattle.model.proofs.Sound.{sound-few, rebuilt-few}
 use Rattle.drops.proofs.Taken.{lost, reset-takes}
 use borrow.Author.Needs.{needs}
 use Rattle.drops.proofs.run_reset.Statement.{statement}
@@ -37,7 +37,7 @@ merge-lost-requires c κs =
     let y = from-total (c .before) in
     let b = from-ready y in
     let r = y .ready .ensures in
-    (r .0, still-few (given b) (b .args .q) _ (r .1) (b .pre .1), b .pre .2)
+    (r .0, rebuilt-few _ _ (now (b .args .scratch)) _ (b .args .h .dirty) (r .1) (sound-few _ _ _ (b .pre .sound)), b .pre .qubit)
 
 dropped-from-requires : tie.Need-dropped-from-requires
 dropped-from-requires c κs = search needs

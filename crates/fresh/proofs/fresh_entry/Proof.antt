@@ -8,7 +8,7 @@ use lib.Seq.{length-take-le}
 use borrow.Author.Needs.{needs}
 use borrow.Rule.Slice.PartMut.{putMid}
 use Rattle.model.specs.Entries.{xAt, zAt, phaseAt}
-use Rattle.model.specs.Keys.{usualSalts, bit, wordKey, phaseLossKey, wordKeyOf, phaseKeyOf}
+use Rattle.model.specs.Keys.{usualSalts, bit, wordKey, phaseLossKey, wordKeyOf, phaseLossKeyOf}
 use Rattle.model.specs.Calls.{freshEntry}
 use Rattle.model.specs.declared.Salts.{Salts}
 use Rattle.fresh.proofs.Parts.{both-put}
@@ -49,8 +49,8 @@ word-is c =
 
 phase-is : (c : tie.After-phase-loss-key) →
     let s = c .before .before .before .before .before .before .before .before .before .before .before .before .before .before .before .before .before .args .size in
-    c .phase-loss-key .result ≡ phaseKeyOf usualSalts (s .n) (freshEntry s .body)
-unfolding phaseKeyOf freshEntry
+    c .phase-loss-key .result ≡ phaseLossKeyOf usualSalts (s .n) (freshEntry s .body)
+unfolding phaseLossKeyOf freshEntry
 phase-is c =
     let r = c .before .before .before .before .before .before .before .before .before in
     let s = r .before .before .before .before .before .before .before .before .args .size in

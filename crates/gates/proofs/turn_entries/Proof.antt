@@ -1,40 +1,43 @@
 -- `gates::turn_entries` meets its contract. The loop's invariant: the entries passed are turned. Assumes nothing.
-use mathlib.Core.Path.{sym, _∙_}
+use mathlib.Core.Path.{_≡_, _∙_}
 use Prim.Native.Nat.{_+_, _*_, _-_, _≤_}
 use native.Mathlib.Omega.{arith}
 use lib.ListN.{length}
-use borrow.Rule.Slice.PartMut.{mid-len}
+use Rattle.model.specs.Entries.{entryLen, listed}
 use Rattle.model.specs.Store.{keyedWeighed}
 use Rattle.model.specs.Gates.{turned}
-use Rattle.model.proofs.Groups.{stride-le}
-use Rattle.model.proofs.Packed.{within}
-use Rattle.checks.specs.Sized.{Within}
-use Rattle.gates.proofs.Mapped.{Mapped, mapped-none, mapped-next, mapped-all}
+use Rattle.model.proofs.Entries.{length-listed}
+use Rattle.entries.proofs.Slots.{in-limits, as-long, slots-end, slot-end, part, part-length}
+use Rattle.entries.proofs.Turns.{Done, begin, turn, became, below-all}
 use Rattle.gates.proofs.Entries.{turned-fits}
 use Rattle.gates.proofs.turn_entries.Statement.{statement}
 use Rattle.gates.proofs.turn_entries.Tie as tie
 
 abbrev Inv-loop : tie.InvT-loop
-Inv-loop store₀ size count gate len place₀ store place = (place ≤ count) × Mapped size count (turned keyedWeighed (size .n) gate) store₀ place store
+Inv-loop store₀ size count gate len place₀ store place = (place ≤ count) × Done size count (λ i. turned keyedWeighed (size .n) gate) place store₀ store
 
 abbrev μ-loop : tie.MeasureT-loop
 μ-loop store₀ size count gate len place₀ store place = count - place
 
-limits : (c : tie.Start Inv-loop μ-loop) → Within (c .args .size)
-limits c = record { qubits = c .pre .0 .sized .qubits .high; coefficients = c .pre .0 .sized .coefficients .high }
-
 -- the loop's entry ends within the store
 ends : (c : tie.In-loop Inv-loop μ-loop) → c .before .loop .place * c .before .before .entry-len .result + c .before .before .entry-len .result ≤ length (c .before .loop .store)
 ends c =
+    let p = c .before .loop .inv .1 .packed in
+    slot-end _ (c .before .before .entry-len .result) _ (c .before .before .before .before .args .count) (p .sized) (c .before .before .entry-len .ensures) (p .room) (c .before .loop .place) (c .loop-test .taken)
+
+-- and is as long as an entry
+long : (c : tie.In-loop Inv-loop μ-loop) → length (part (c .before .before .entry-len .result) (c .before .loop .place) (c .before .loop .store)) ≡ entryLen (c .before .before .before .before .args .size)
+long c =
     let a = c .before .before .before .before .args in
-    let len = c .before .before .entry-len .result in
-    omega (arith, stride-le len (c .before .loop .place) (a .count) (c .loop-test .taken), rw (← c .before .before .entry-len .ensures) at (within (a .size) (a .count) (c .before .loop .store) (c .before .loop .inv .1 .packed)))
+    let e = c .before .before .entry-len in
+    let p = c .before .loop .inv .1 .packed in
+    part-length (a .size) (e .result) (e .ensures) (c .before .loop .place) (a .count) (c .before .loop .store) (slots-end (a .size) (e .result) _ (a .count) (p .sized) (e .ensures) (p .room)) (c .loop-test .taken)
 
 entry-len-requires : tie.Need-entry-len-requires Inv-loop μ-loop
-entry-len-requires c κs = limits (c .before)
+entry-len-requires c κs = in-limits (c .before .pre .0)
 
 loop-holds : tie.Need-loop-holds Inv-loop μ-loop
-loop-holds c = (omega arith, mapped-none _ _ _ _ (c .before .before .pre .0))
+loop-holds c = (omega arith, begin _ _ _ _ (c .before .before .pre .0))
 
 mul-at : tie.Need-mul-at Inv-loop μ-loop
 mul-at c = omega (arith, ends c)
@@ -55,10 +58,7 @@ part-turn-entry-end : tie.Need-part-turn-entry-end Inv-loop μ-loop
 part-turn-entry-end c = omega (arith, ends c)
 
 turn-entry-requires : tie.Need-turn-entry-requires Inv-loop μ-loop
-turn-entry-requires c κs =
-    let at = c .before .before .loop in
-    let len = c .before .before .before .entry-len .result in
-    (limits (c .before .before .before .before .before), mid-len (at .place * len) (at .place * len + len) (at .store) (ends (c .before)) ∙ (omega (arith, c .before .before .before .entry-len .ensures)), c .before .before .before .before .before .pre .1)
+turn-entry-requires c κs = let start = c .before .before .before .before .before in (in-limits (start .pre .0), long (c .before), start .pre .1)
 
 add-place : tie.Need-add-place Inv-loop μ-loop
 add-place c = omega arith
@@ -68,18 +68,24 @@ loop-less c = omega arith
 
 loop-again : tie.Need-loop-again Inv-loop μ-loop
 loop-again c =
-    let a = c .before .before .before .before .before .before .before .before .args in
-    let at = c .before .before .before .before .before .loop in (
+    let l = c .before .before .before .before .before in
+    let e = l .before .entry-len in
+    let a = l .before .before .before .args in
+    let f = turned keyedWeighed (a .size .n) (a .gate) in
+    let turned-one = became (a .size) f (turned-fits (a .size) (a .gate) _ (long (c .before .before .before .before))) (c .before .before .turn-entry .ensures) in (
       omega arith,
-      mapped-next (a .size) (a .count) (turned keyedWeighed (a .size .n) (a .gate)) (a .store .now) (c .before .before .before .before .before .before .entry-len .result) (at .place) (turned-fits (a .size) (a .gate))
-          (c .before .before .before .before .before .before .entry-len .ensures) (c .before .before .before .before .loop-test .taken) (at .inv .1) (c .before .before .turn-entry .ensures),
+      turn (a .size) (a .count) (λ i. f) (a .store .now) (e .result) (e .ensures) (l .loop .place) (l .loop .store) _ (c .before .before .before .before .loop-test .taken) (l .loop .inv .1) turned-one,
     )
 
 same-length : tie.Need-same-length Inv-loop μ-loop
-same-length c = c .before .loop .inv .1 .packed .sized .words ∙ sym (c .before .before .before .before .pre .0 .sized .words)
+same-length c = as-long (c .before .loop .inv .1 .packed) (c .before .before .before .before .pre .0)
 
 returns : tie.Need-returns Inv-loop μ-loop
-returns c = (c .before .loop .inv .1 .packed, mapped-all _ _ _ _ (c .before .loop .place) (c .loop-test .left) (c .before .loop .inv .1))
+returns c =
+    let a = c .before .before .before .before .args in
+    let es = listed (a .size) (a .count) (a .store .now) in
+    let d = c .before .loop .inv .1 in
+    (d .packed, d .entries ∙ below-all (turned keyedWeighed (a .size .n) (a .gate)) (c .before .loop .place) es (omega (arith, length-listed (a .size) (a .count) (a .store .now))))
 
 pub turn-entries-spec : {M : Type 1} → statement M
 turn-entries-spec =

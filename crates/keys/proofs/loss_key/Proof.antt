@@ -3,14 +3,14 @@ use mathlib.Core.Path.{_≡_}
 use Prim.Native.Nat.{_≤_, _-_}
 use native.Mathlib.Omega.{arith}
 use borrow.Author.Needs.{needs}
-use Rattle.model.specs.Keys.{bit, maskSum}
-use Rattle.model.proofs.Sums.{maskSum-none, maskSum-next}
+use Rattle.model.specs.Keys.{bit, maskXor}
+use Rattle.model.proofs.Sums.{maskXor-none, maskXor-next}
 use Rattle.keys.proofs.Tables.{none-lost}
 use Rattle.keys.proofs.loss_key.Statement.{statement}
 use Rattle.keys.proofs.loss_key.Tie as tie
 
 abbrev Inv-loop : tie.InvT-loop
-Inv-loop salts n loss h₀ q₀ h q = (q ≤ n) × (h ≡ maskSum (salts .loss) q (λ j. bit j loss))
+Inv-loop salts n loss h₀ q₀ h q = (q ≤ n) × (h ≡ maskXor (salts .loss) q (λ j. bit j loss))
 
 abbrev μ-loop : tie.MeasureT-loop
 μ-loop salts n loss h₀ q₀ h q = n - q
@@ -19,7 +19,7 @@ returns : tie.Need-returns Inv-loop μ-loop
 returns c = none-lost (c .before .args .salts .loss) (c .before .args .n) (c .before .args .loss) (c .if1 .taken)
 
 loop-holds : tie.Need-loop-holds Inv-loop μ-loop
-loop-holds c = (omega arith, maskSum-none _ _)
+loop-holds c = (omega arith, maskXor-none _ _)
 
 shr-masked : tie.Need-shr-masked Inv-loop μ-loop
 shr-masked c = omega arith
@@ -34,7 +34,7 @@ loop-less : tie.Need-loop-less Inv-loop μ-loop
 loop-less c = omega arith
 
 loop-again : tie.Need-loop-again Inv-loop μ-loop
-loop-again c = (omega arith, maskSum-next _ _ _ (c .before .before .loop .inv .1) (c .masked .ensures))
+loop-again c = (omega arith, maskXor-next _ _ _ (c .before .before .loop .inv .1) (c .masked .ensures))
 
 returns-2 : tie.Need-returns-2 Inv-loop μ-loop
 returns-2 c =

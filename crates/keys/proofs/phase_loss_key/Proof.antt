@@ -4,11 +4,11 @@ use borrow.Author.Needs.{needs}
 use Rattle.keys.proofs.phase_loss_key.Statement.{statement}
 use Rattle.keys.proofs.phase_loss_key.Tie as tie
 
-mul-phase-key : tie.Need-mul-phase-key
-mul-phase-key c = search needs
+mul-phase-part : tie.Need-mul-phase-part
+mul-phase-part c = search needs
 
-phase-key-requires : tie.Need-phase-key-requires
-phase-key-requires c κs = search needs
+phase-part-requires : tie.Need-phase-part-requires
+phase-part-requires c κs = search needs
 
 loss-key-requires : tie.Need-loss-key-requires
 loss-key-requires c κs = search needs
@@ -19,4 +19,4 @@ returns c = cc
 
 pub phase-loss-key-spec : {M : Type 1} → statement M
 phase-loss-key-spec =
-    tie.close (tie.spec mul-phase-key phase-key-requires loss-key-requires returns)
+    tie.close (tie.spec mul-phase-part phase-part-requires loss-key-requires returns)

@@ -6,19 +6,19 @@ use borrow.Author.Needs.{needs}
 use Rattle.keys.proofs.phase_loss_key_from.Statement.{statement}
 use Rattle.keys.proofs.phase_loss_key_from.Tie as tie
 
-mul-phase-key-from : tie.Need-mul-phase-key-from
-mul-phase-key-from c = search needs
+mul-phase-part-from : tie.Need-mul-phase-part-from
+mul-phase-part-from c = search needs
 
-phase-key-from-requires : tie.Need-phase-key-from-requires
-phase-key-from-requires c κs = search needs
+phase-part-from-requires : tie.Need-phase-part-from-requires
+phase-part-from-requires c κs = search needs
 
 loss-key-requires : tie.Need-loss-key-requires
 loss-key-requires c κs = search needs
 
 returns : tie.Need-returns
 unfolding phaseLossKey
-returns c = ap₂ bitXor (c .before .phase-key-from .ensures (c .before .before .before .args .salts) (c .before .before .before .pre .0)) (c .loss-key .ensures)
+returns c = ap₂ bitXor (c .before .phase-part-from .ensures (c .before .before .before .args .salts) (c .before .before .before .pre .0)) (c .loss-key .ensures)
 
 pub phase-loss-key-from-spec : {M : Type 1} → statement M
 phase-loss-key-from-spec =
-    tie.close (tie.spec mul-phase-key-from phase-key-from-requires loss-key-requires returns)
+    tie.close (tie.spec mul-phase-part-from phase-part-from-requires loss-key-requires returns)

@@ -317,14 +317,14 @@ module _ (m : Sum Entry) where
 
     -- ---- any call
 
-    pub acts-same : (c : Call) (padded : Bool) (l : List Entry) → firstOf (tests c (m .size) padded l) ≡ 0 → Same c m dirty es (act engine c (worked c m dirty es)) (act keyless c m)
+    pub acts-same : (c : Call) (zeros : Bool) (l : List Entry) → firstOf (tests c (m .size) zeros l) ≡ 0 → Same c m dirty es (act engine c (worked c m dirty es)) (act keyless c m)
     unfolding tests argumentTests
-    acts-same (noise c) padded l h = noise-acts c (passed (someNotBelow (m .size .n) (qubits c)) 2 _ h .0)
-    acts-same (reset q) padded l h = reset-acts q (leb-false (m .size .n) q (passed (leb (m .size .n) q) 2 _ h .0))
-    acts-same (gate f) padded l h = gate-acts f
-    acts-same truncate padded l h = truncate-acts
-    acts-same normalise padded l h = normalise-acts
-    acts-same (table room) padded l h = table-acts room
-    acts-same (pick draw) padded l h = pick-acts draw
-    acts-same (sheet room) padded l h = sheet-acts room
-    acts-same (view place) padded l h = view-acts place
+    acts-same (noise c) zeros l h = noise-acts c (passed (someNotBelow (m .size .n) (qubits c)) 2 _ h .0)
+    acts-same (reset q) zeros l h = reset-acts q (leb-false (m .size .n) q (passed (leb (m .size .n) q) 2 _ h .0))
+    acts-same (gate f) zeros l h = gate-acts f
+    acts-same truncate zeros l h = truncate-acts
+    acts-same normalise zeros l h = normalise-acts
+    acts-same (table room) zeros l h = table-acts room
+    acts-same (pick draw) zeros l h = pick-acts draw
+    acts-same (sheet room) zeros l h = sheet-acts room
+    acts-same (view place) zeros l h = view-acts place

@@ -12,7 +12,7 @@ use Rattle.model.specs.Lists.{groups, joined, every}
 use Rattle.model.specs.Entries.{Entry, Keyed, strip, entryLen, wordsOf, entryOf, listed, pastCount, pack}
 use Rattle.model.specs.Keys.{usualSalts, keyed}
 use Rattle.model.specs.Numbers.{firstOf, sizeSound, boundsSound, headerSound, allZero}
-use Rattle.model.specs.Calls.{Sum, Lent, held, shape, padded}
+use Rattle.model.specs.Calls.{Sum, Lent, held, shape, zerosPast}
 use Rattle.model.specs.declared.Size.{Size}
 use Rattle.model.proofs.Packed.{Fits, entry-words, words-length}
 use Rattle.model.proofs.Demand3.Each.{Each, nil, cons, each-unmap}
@@ -99,8 +99,8 @@ module _ (m : Sum Entry) (dirty : Bool) (es : List Keyed) (g : Good m dirty es) 
   pub listed-is : listed (m .size) (length es) (pack (m .size) es) ≡ es
   listed-is = pack-listed (m .size) each-fits
 
-  pub padded-is : padded (state m dirty es) ≡ true
-  padded-is = pack-zeros (m .size) each-fits
+  pub zeros-is : zerosPast (state m dirty es) ≡ true
+  zeros-is = pack-zeros (m .size) each-fits
 
   -- neither 1 nor 2
   pub shape-is : firstOf (shape (state m dirty es)) ≡ 0

@@ -8,12 +8,12 @@ use Rattle.model.specs.Entries.{Entry, Keyed}
 use Rattle.model.specs.Sum.{Result, done, refused}
 use Rattle.model.specs.Numbers.{Test}
 use Rattle.model.specs.Keyless.{keyless, keylessStep}
-use Rattle.model.specs.Calls.{Call, noise, reset, gate, truncate, normalise, table, pick, sheet, view, Sum, Outcome, tests, unless, bare, act, performed, held, engine, kindOf, dirtyAfter, Left, plainAnswer, headerWith, accepted, left, shape, padded, step}
+use Rattle.model.specs.Calls.{Call, noise, reset, gate, truncate, normalise, table, pick, sheet, view, Form, asWords, asBytes, asEntry, formOf, Sum, Outcome, tests, unless, bare, act, performed, held, engine, kindOf, dirtyAfter, Left, plainAnswer, headerWith, accepted, left, shape, zerosPast, step}
 use Rattle.model.proofs.Steps.{unless-none, bare-rebuilt, size-rebuilt}
-use Rattle.model.specs.Demand3.{next, keylessNext, withoutKeys, shownBy, keylessShown, comparisons, flagLeft, flagBy}
+use Rattle.model.specs.Demand3.{next, keylessNext, bareForm, withoutKeys, shownBy, keylessShown, comparisons, flagLeft, flagBy}
 use Rattle.model.proofs.Demand3.Lists.{map-same}
 use Rattle.model.proofs.Demand3.Room.{Held, Yields, given, yields-unless, act-held}
-use Rattle.model.proofs.Demand3.States.{state, Good, listed-is, padded-is, shape-is}
+use Rattle.model.proofs.Demand3.States.{state, Good, listed-is, zeros-is, shape-is}
 use Rattle.model.proofs.Demand3.Acts.{stored, worked, SameOutcome, Same, both-done, both-refused, same-unless, acts-same}
 
 -- what a call left, where the list kept without keys gave r
@@ -25,17 +25,15 @@ pub record Stepped (c : Call) (m : Sum Entry) (dirty : Bool) (l : Left) (r : Res
   pub compared : l .answer .counts .compared ≡ comparisons c m r
 
 -- without keys, no words are no words
+bare-nothing : (f : Form) → bareForm f [] ≡ []
+unfolding bareForm
+bare-nothing asWords = refl
+bare-nothing asBytes = refl
+bare-nothing asEntry = refl
+
 nothing-shown : (c : Call) → withoutKeys c [] ≡ []
 unfolding withoutKeys
-nothing-shown (noise c) = refl
-nothing-shown (reset q) = refl
-nothing-shown (gate f) = refl
-nothing-shown truncate = refl
-nothing-shown normalise = refl
-nothing-shown (table room) = refl
-nothing-shown (pick draw) = refl
-nothing-shown (sheet room) = refl
-nothing-shown (view place) = refl
+nothing-shown c = bare-nothing (formOf (kindOf c))
 
 -- the flag that the engine leaves is document 01's
 flag-is : (c : Call) (dirty : Bool) → dirtyAfter (kindOf c) dirty ≡ flagLeft c dirty
@@ -60,9 +58,9 @@ module _ (c : Call) (m : Sum Entry) (dirty : Bool) (es : List Keyed) (g : Good m
   unfolding step
   step-is =
       let x = state m dirty es in
-      ap (λ (l : List Keyed). left c x (worked c m dirty l) (unless (shape x) (performed engine c (padded x) (worked c m dirty l)))) (listed-is m dirty es g)
+      ap (λ (l : List Keyed). left c x (worked c m dirty l) (unless (shape x) (performed engine c (zerosPast x) (worked c m dirty l)))) (listed-is m dirty es g)
       ∙ ap (left c x sum)
-      (unless-none (shape x) (performed engine c (padded x) sum) (shape-is m dirty es g) ∙ ap (λ (p : Bool). performed engine c p sum) (padded-is m dirty es g))
+      (unless-none (shape x) (performed engine c (zerosPast x) sum) (shape-is m dirty es g) ∙ ap (λ (p : Bool). performed engine c p sum) (zeros-is m dirty es g))
 
   tests-are : tests c (sum .size) true (bare engine sum) ≡ tests c (m .size) true (bare keyless m)
   tests-are =

@@ -5,7 +5,7 @@ use mathlib.Core.Path.{_≡_, ap, _∙_}
 use Prim.Native.Nat.{ℕ, _+_, _-_}
 use lib.ListN.{length}
 use borrow.Rule.Slice.PartMut.{midOf, mid-len}
-use Rattle.model.specs.Calls.{held, table, step, over}
+use Rattle.model.specs.Calls.{held, table, step, overlaid}
 use Rattle.perform.proofs.Records.{looked-table}
 use borrow.Author.Needs.{needs}
 use Rattle.perform.proofs.show_table.Statement.{statement}
@@ -43,7 +43,7 @@ returns c =
     let long : length (midOf 7 (7 + room - 7) out) ≡ room = mid-len 7 (7 + room) out (omega arith) ∙ (omega arith) in
     looked-table x (t .table .result) out (7 + room - 7) (omega arith) (t .table .kept .1 .1 .0) (n .put-numbers .ensures) room
     (t .table .ensures .0 ∙ ap (λ (k : ℕ). step (table k) x .answer) long)
-    (t .table .ensures .1 ∙ ap (λ (k : ℕ). over (step (table k) x .output) (midOf 7 (7 + room - 7) out)) long)
+    (t .table .ensures .1 ∙ ap (λ (k : ℕ). overlaid (step (table k) x .output) (midOf 7 (7 + room - 7) out)) long)
 
 pub show-table-spec : {M : Type 1} → statement M
 show-table-spec =

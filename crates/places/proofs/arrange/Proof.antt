@@ -3,7 +3,7 @@
 use mathlib.Core.Path.{_≡_, refl, sym, _∙_}
 use Prim.Native.Nat.{_-_, _≤_}
 use native.Mathlib.Omega.{arith}
-use Rattle.model.proofs.Packed.{Packed}
+use Rattle.model.specs.Sound.{Packed}
 use Rattle.places.specs.Places.{picked}
 use Rattle.places.specs.Settled.{Settled}
 use Rattle.places.proofs.Arranged.{at-most, distinct-below, none-settled, all-settled}

@@ -6,7 +6,7 @@ use lib.ListN.{length}
 use borrow.Author.Tests.{eq-eqb, ne-eqb}
 use Rattle.model.specs.Entries.{entryLen}
 use Rattle.model.specs.declared.Size.{Size}
-use Rattle.rebuild.proofs.Turns.{limits, slot-end}
+use Rattle.entries.proofs.Slots.{limits, slot-end}
 use Rattle.places.proofs.Walked.{Walked, tested, none-walked, one-kept, one-left, all-walked}
 use Rattle.places.proofs.leave.Statement.{statement}
 use Rattle.places.proofs.leave.Tie as tie

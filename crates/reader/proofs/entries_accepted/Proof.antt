@@ -10,7 +10,7 @@ use borrow.Author.Tests.{not-true, not-false}
 use Rattle.model.specs.Lists.{every}
 use Rattle.model.specs.Sheet.{linesFields}
 use Rattle.model.specs.Numbers.{entriesSound}
-use Rattle.checks.specs.Sized.{entrySound}
+use Rattle.checks.specs.Sound.{entrySound}
 use Rattle.checks.proofs.Words.{entries-one-pass}
 use Rattle.fields.specs.Read.{isSome}
 use Rattle.reader.specs.Reading.{linesOn, entryBytes, entrySpan, entryOn, entriesOn}

@@ -9,7 +9,7 @@ use borrow.Author.Needs.{needs}
 use borrow.Rule.Slice.PartMut.{mid-len}
 use Rattle.model.specs.Entries.{Keyed, strip, entryOf}
 use Rattle.model.proofs.Packed.{Fits, entry-words, words-length}
-use Rattle.checks.specs.Sized.{entrySound}
+use Rattle.checks.specs.Sound.{entrySound}
 use Rattle.reader.specs.Reading.{linesOn, countOn, entryOn, zeroKeyed}
 use Rattle.reader.proofs.Lined.{lines-long, field-at}
 use Rattle.reader.proofs.Entry.{entry-fits, too-many}

@@ -1,5 +1,5 @@
 -- `reader::header_on` meets its contract. Assumes nothing.
-use mathlib.Core.Path.{_≡_, refl}
+use mathlib.Core.Path.{_≡_, refl, _∙_}
 use native.Mathlib.Omega.{arith}
 use lib.ListN.{length}
 use denote.Ref.{now}
@@ -35,19 +35,24 @@ number-at-requires-6 c κs = omega (arith, long (c .before .before .before .befo
 float-of-requires-2 : tie.Need-float-of-requires-2
 float-of-requires-2 c κs = search needs
 
+header-requires : tie.Need-header-requires
+header-requires c κs = search needs
+
 returns : tie.Need-returns
 returns c =
-    let c₄ = c .before .before .before .before in
-    let s = c₄ .before .before .before .before .before in
+    let d = c .before in
+    let d₄ = d .before .before .before .before in
+    let s = d₄ .before .before .before .before .before in
     let f = first-field (now (s .args .first)) (s .pre) in
-    rw (c .float-of2 .ensures, c .before .before .float-of .ensures)
+    c .header .ensures
+    ∙ rw (d .float-of2 .ensures, d .before .before .float-of .ensures)
     (header-is (now (s .args .first)) (s .pre)
-    (c₄ .before .before .before .number-at .ensures _ (f 0 0 refl (omega arith)))
-    (c₄ .before .before .number-at2 .ensures _ (f 21 1 refl (omega arith)))
-    (c₄ .before .number-at3 .ensures _ (f 42 2 refl (omega arith)))
-    (c₄ .number-at4 .ensures _ (f 63 3 refl (omega arith)))
-    (c .before .before .before .number-at5 .ensures _ (f 84 4 refl (omega arith)))
-    (c .before .number-at6 .ensures _ (f 105 5 refl (omega arith))))
+    (d₄ .before .before .before .number-at .ensures _ (f 0 0 refl (omega arith)))
+    (d₄ .before .before .number-at2 .ensures _ (f 21 1 refl (omega arith)))
+    (d₄ .before .number-at3 .ensures _ (f 42 2 refl (omega arith)))
+    (d₄ .number-at4 .ensures _ (f 63 3 refl (omega arith)))
+    (d .before .before .before .number-at5 .ensures _ (f 84 4 refl (omega arith)))
+    (d .before .number-at6 .ensures _ (f 105 5 refl (omega arith))))
 
 pub header-on-spec : {M : Type 1} → statement M
 header-on-spec =
@@ -61,4 +66,5 @@ header-on-spec =
     float-of-requires
     number-at-requires-6
     float-of-requires-2
+    header-requires
     returns)

@@ -14,7 +14,7 @@ use Rattle.model.specs.Lists.{every, joined}
 use Rattle.model.specs.Entries.{Entry, wordsOf}
 use Rattle.model.specs.Sheet.{linesFields}
 use Rattle.model.proofs.Groups.{stride-le}
-use Rattle.checks.specs.Sized.{entrySound}
+use Rattle.checks.specs.Sound.{entrySound}
 use Rattle.checks.proofs.Words.{entries-one-pass}
 use Rattle.fields.specs.Read.{isSome}
 use Rattle.reader.specs.Reading.{linesOn, entryBytes, entrySpan, entryOn, entriesOn, zeroKeyed}

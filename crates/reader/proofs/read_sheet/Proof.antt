@@ -7,7 +7,7 @@ use denote.Ref.{now}
 use borrow.Author.Needs.{needs}
 use Rattle.model.specs.Sheet.{lineFields}
 use Rattle.fields.specs.Read.{isSome}
-use Rattle.reader.specs.Reading.{got, headerOn, Sound}
+use Rattle.reader.specs.Reading.{got, headerOn, Readable}
 use Rattle.reader.proofs.Sheets.{Read, is-read, read-long}
 use Rattle.reader.proofs.Answers.{sound, is-refused, is-accepted}
 use Rattle.reader.proofs.read_sheet.Statement.{statement}
@@ -26,7 +26,7 @@ abbrev text : tie.Start → List ℕ
 text c = now (c .args .text)
 
 -- no number was given
-none-given : (c : tie.Else1) → let s = from (c .before) in Sound (text s) (length (s .args .store .now))
+none-given : (c : tie.Else1) → let s = from (c .before) in Readable (text s) (length (s .args .store .now))
 none-given c = let s = from (c .before) in sound (text s) (length (s .args .store .now)) (sym (c .before .sheet-number .ensures) ∙ c .if1 .left)
 
 was-read : (c : tie.Else1) → Read (text (from (c .before)))

@@ -5,9 +5,11 @@ use native.Mathlib.Omega.{arith}
 use lib.ListN.{length, getD}
 use borrow.Author.Needs.{needs}
 use Rattle.model.specs.Entries.{listed}
-use Rattle.model.proofs.Packed.{Packed}
+use Rattle.model.specs.Sound.{Packed}
+use Rattle.entries.proofs.Slots.{limits, slots-end, slot-end, part-length, turn-length}
+use Rattle.entries.proofs.Turns.{Done, changedBelow, begin, turn}
 use Rattle.rebuild.specs.Saved.{withWord}
-use Rattle.rebuild.proofs.Turns.{Done, changedBelow, begin, turn, turn-length, below-by, limits, slots-end, slot-end, part-length}
+use Rattle.rebuild.proofs.Restored.{below-by}
 use Rattle.rebuild.proofs.restore_word.Statement.{statement}
 use Rattle.rebuild.proofs.restore_word.Tie as tie
 

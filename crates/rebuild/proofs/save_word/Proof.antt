@@ -5,7 +5,7 @@ use native.Mathlib.Omega.{arith}
 use lib.ListN.{length, take, length-set}
 use borrow.Author.Needs.{needs}
 use Rattle.model.proofs.Packed.{within}
-use Rattle.rebuild.proofs.Turns.{limits, slot-end}
+use Rattle.entries.proofs.Slots.{limits, slot-end}
 use Rattle.rebuild.proofs.Words.{column, column-none, column-next, column-listed}
 use Rattle.rebuild.proofs.save_word.Statement.{statement}
 use Rattle.rebuild.proofs.save_word.Tie as tie

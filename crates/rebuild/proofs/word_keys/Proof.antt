@@ -8,7 +8,7 @@ use Rattle.model.specs.Entries.{entryLen}
 use Rattle.model.specs.Keys.{wordKeyOf}
 use Rattle.model.proofs.Groups.{stride-le}
 use Rattle.model.proofs.Packed.{within}
-use Rattle.rebuild.proofs.Turns.{limits}
+use Rattle.entries.proofs.Slots.{limits}
 use Rattle.rebuild.proofs.Worked.{Worked, worked-none, worked-next, worked-all}
 use Rattle.rebuild.proofs.word_keys.Statement.{statement}
 use Rattle.rebuild.proofs.word_keys.Tie as tie

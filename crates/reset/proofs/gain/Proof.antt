@@ -6,7 +6,7 @@ use denote.Ref.{now}
 use lib.Ieee.{Float}
 use lib.ListN.{length}
 use Rattle.model.specs.Floats.{bits, plus}
-use Rattle.rebuild.proofs.Turns.{slot-end}
+use Rattle.entries.proofs.Slots.{slot-end}
 use Rattle.reset.proofs.Revived.{gained-at}
 use borrow.Author.Needs.{needs}
 use Rattle.reset.proofs.gain.Statement.{statement}

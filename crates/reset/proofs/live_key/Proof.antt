@@ -14,25 +14,21 @@ shared-slice-read-result c = search needs
 shared-slice-read-result-2 : tie.Need-shared-slice-read-result-2
 shared-slice-read-result-2 c = search needs
 
-usual-salts-requires : tie.Need-usual-salts-requires
-usual-salts-requires c κs = search needs
-
-loss-mask-requires : tie.Need-loss-mask-requires
-loss-mask-requires c κs = search needs
+loss-change-requires : tie.Need-loss-change-requires
+loss-change-requires c κs = search needs
 
 returns : tie.Need-returns
 returns c =
     let b = c .before .before .before .before in
     let a = b .before .before .args in
-    live-key-is (a .size) (a .q) (now (a .store)) (a .i) (b .entry .ensures .0) (c .before .usual-salts .ensures) (c .loss-mask .ensures)
+    live-key-is (a .size) (a .q) (now (a .store)) (a .i) (b .entry .ensures .0) (c .before .before .before .loss-change .ensures)
 
 pub live-key-spec : {M : Type 1} → statement M
 live-key-spec =
     tie.close
     (tie.spec
     entry-requires
+    loss-change-requires
     shared-slice-read-result
     shared-slice-read-result-2
-    usual-salts-requires
-    loss-mask-requires
     returns)

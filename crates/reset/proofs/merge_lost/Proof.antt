@@ -25,8 +25,8 @@ returns c =
     let g = c .before .before .arrange .ensures in
     let m = c .before .before .before .before .before .before .before .bring-all-back in
     let o = c .before .before .before .before .before .before .before .before .before .before .before .leave in
-    let a = c .before .before .before .before .before .before .before .before .before .before .before .before .before .before .before .before .before .args in
-    lost-merged (a .size) (a .threshold) (a .cutoff) (a .q) (a .count) (now (a .store)) (o .result) _ _ (o .ensures) (m .result) _ _ _ (m .ensures) (g .0) (g .1)
+    let a = c .before .before .before .before .before .before .before .before .before .before .before .before .before .before .before .before .before .before .args in
+    lost-merged (a .limits .size) (a .limits .threshold) (a .limits .cutoff) (a .q) (a .count) (now (a .store)) (o .result) _ _ (o .ensures) (m .result) _ _ _ (m .ensures) (g .0) (g .1)
 
 pub merge-lost-spec : {M : Type 1} → statement M
 merge-lost-spec =

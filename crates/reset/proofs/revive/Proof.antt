@@ -3,7 +3,7 @@ use Prim.Native.Nat.{_+_, _*_, _≤_}
 use native.Mathlib.Omega.{arith}
 use denote.Ref.{now}
 use lib.ListN.{length}
-use Rattle.rebuild.proofs.Turns.{limits, slots-end, slot-end, part-length}
+use Rattle.entries.proofs.Slots.{limits, slots-end, slot-end, part-length}
 use Rattle.reset.proofs.Revived.{loss-delta, revived}
 use borrow.Author.Needs.{needs}
 use Rattle.reset.proofs.revive.Statement.{statement}
@@ -24,14 +24,11 @@ mul-at c = omega (arith, inside c)
 add-end : tie.Need-add-end
 add-end c = omega (arith, inside c)
 
-usual-salts-requires : tie.Need-usual-salts-requires
-usual-salts-requires c κs = search needs
-
-loss-mask-requires : tie.Need-loss-mask-requires
-loss-mask-requires c κs = search needs
+loss-change-requires : tie.Need-loss-change-requires
+loss-change-requires c κs = search needs
 
 mul-toggle-entry : tie.Need-mul-toggle-entry
-mul-toggle-entry c = omega (arith, inside (c .before .before))
+mul-toggle-entry c = omega (arith, inside (c .before))
 
 sub-toggle-entry : tie.Need-sub-toggle-entry
 sub-toggle-entry c = search needs
@@ -40,18 +37,18 @@ part-toggle-entry-start : tie.Need-part-toggle-entry-start
 part-toggle-entry-start c = search needs
 
 part-toggle-entry-end : tie.Need-part-toggle-entry-end
-part-toggle-entry-end c = omega (arith, inside (c .before .before))
+part-toggle-entry-end c = omega (arith, inside (c .before))
 
 toggle-entry-requires : tie.Need-toggle-entry-requires
 toggle-entry-requires c κs =
-    let n = c .before .before .before in
+    let n = c .before .before in
     let b = n .before .before in
     let a = b .args in
     let e = n .entry-len in (
       limits _ _ (b .pre .0 .sized),
       part-length (a .size) (e .result) (e .ensures) (a .i) (a .total) (now (a .store)) (slots-end (a .size) (e .result) _ (a .total) (b .pre .0 .sized) (e .ensures) (b .pre .0 .room)) (b .pre .1),
       b .pre .2,
-      loss-delta _ _ _ (c .before .before .usual-salts .ensures) (c .before .loss-mask .ensures),
+      loss-delta _ _ _ (c .before .loss-change .ensures),
     )
 
 same-length : tie.Need-same-length
@@ -60,7 +57,7 @@ same-length c = search needs
 returns : tie.Need-returns
 returns c =
     let f = c .before .before in
-    let n = f .before .before .before .before in
+    let n = f .before .before .before in
     let b = n .before .before in
     let a = b .args in
     revived (a .size) (a .total) (now (a .store)) (b .pre .0) (n .entry-len .result) (n .entry-len .ensures) (a .i) (b .pre .1) (a .q) _ (f .toggle-entry .ensures)
@@ -72,8 +69,7 @@ revive-spec =
     entry-len-requires
     mul-at
     add-end
-    usual-salts-requires
-    loss-mask-requires
+    loss-change-requires
     mul-toggle-entry
     sub-toggle-entry
     part-toggle-entry-start

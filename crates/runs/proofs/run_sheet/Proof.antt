@@ -1,13 +1,12 @@
 -- `runs::run_sheet` meets its contract: what it leaves is what the definitions leave, and they keep the promise. Assumes nothing.
-use mathlib.Core.Path.{_≡_, sym, ap, _∙_}
+use mathlib.Core.Path.{_≡_, sym, _∙_}
 use mathlib.Core.Bool.{true}
 use lib.ListN.{length}
 use denote.Ref.{now}
 use borrow.Author.Tests.{not-true, not-false}
-use Rattle.model.specs.Calls.{held, read}
-use Rattle.model.specs.declared.Header.{Header}
-use Rattle.runs.specs.Runs.{fits, untouched}
-use Rattle.runs.proofs.Promised.{ran-11, ran-on, ran}
+use Rattle.model.specs.Calls.{read}
+use Rattle.runs.specs.Runs.{fits}
+use Rattle.runs.proofs.Promised.{ran-unfit, ran-on}
 use borrow.Author.Needs.{needs}
 use Rattle.runs.proofs.run_sheet.Statement.{statement}
 use Rattle.runs.proofs.run_sheet.Tie as tie
@@ -21,17 +20,14 @@ fit c = sym (c .before .fits2 .ensures) ∙ not-false _ (c .if1 .left)
 fits-requires : tie.Need-fits-requires
 fits-requires c κs = search needs
 
-zero-header-requires : tie.Need-zero-header-requires
-zero-header-requires c κs = search needs
+unfit-run-requires : tie.Need-unfit-run-requires
+unfit-run-requires c κs = search needs
 
 returns : tie.Need-returns
 returns c =
     let f = c .before .before in
     let a = from f .args in
-    let s = read (now (a .sheet)) in
-    ran (a .bytes) (now (a .calls)) s (now (a .store)) (now (a .log)) (now (a .text))
-    (ap (λ (h : Header). untouched 11 (held h (now (a .store))) (now (a .log)) (now (a .text))) (c .zero-header .ensures)
-    ∙ ran-11 (a .bytes) (now (a .calls)) s (now (a .store)) (now (a .log)) (now (a .text)) (sym (f .fits2 .ensures) ∙ not-true _ (c .before .if1 .taken)))
+    ran-unfit (a .bytes) (now (a .calls)) (read (now (a .sheet))) (now (a .store)) (now (a .log)) (now (a .text)) (sym (f .fits2 .ensures) ∙ not-true _ (c .before .if1 .taken)) (c .unfit-run .ensures)
 
 read-sheet-requires : tie.Need-read-sheet-requires
 read-sheet-requires c κs = search needs
@@ -53,16 +49,14 @@ returns-2 c =
     let t = c .before .before .before .before .before .before .before .before .before .before .before .before in
     let e = c .before .before .before .before .before .before .before .before .before .before .before .before .before .before in
     let a = from (e .before) .args in
-    let s = read (now (a .sheet)) in
-    ran (a .bytes) (now (a .calls)) s (now (a .store)) (now (a .log)) (now (a .text))
-    (ran-on (a .bytes) (now (a .calls)) s (now (a .store)) (now (a .log)) (now (a .text)) (t .read-sheet .result) (t .read-sheet .last .1 .0) (fit e) (t .read-sheet .ensures) (c .before .before .before .before .before .before .run-after .ensures))
+    ran-on (a .bytes) (now (a .calls)) (read (now (a .sheet))) (now (a .store)) (now (a .log)) (now (a .text)) (t .read-sheet .result) (t .read-sheet .last .1 .0) (fit e) (t .read-sheet .ensures) (c .before .before .before .before .before .before .run-after .ensures)
 
 pub run-sheet-spec : {M : Type 1} → statement M
 run-sheet-spec =
     tie.close
     (tie.spec
     fits-requires
-    zero-header-requires
+    unfit-run-requires
     returns
     read-sheet-requires
     run-after-requires

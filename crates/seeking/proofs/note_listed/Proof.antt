@@ -4,7 +4,7 @@ use denote.Ref.{now}
 use Rattle.model.specs.Entries.{entryLen}
 use Rattle.model.proofs.Groups.{stride-le}
 use Rattle.model.proofs.Packed.{within}
-use Rattle.store.proofs.Merge.{packed-within}
+use Rattle.seeking.proofs.Noting.{packed-within}
 use borrow.Author.Needs.{needs}
 use Rattle.seeking.proofs.note_listed.Statement.{statement}
 use Rattle.seeking.proofs.note_listed.Tie as tie

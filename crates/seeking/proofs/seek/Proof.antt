@@ -11,14 +11,14 @@ first-place-requires c κs = search needs
 returns : tie.Need-returns
 returns c =
     let s = c .before .before .before .before in
-    nowhere _ _ _ _ _ _ _ (s .pre .0 .3) (s .args .key) (s .pre .1 .3) (omega (arith, c .if1 .taken, c .before .first-place .ensures))
+    nowhere _ _ _ _ _ _ _ (s .pre .0 .3) (s .args .sought .key) (s .pre .1 .key) (omega (arith, c .if1 .taken, c .before .first-place .ensures))
 
 walk-from-requires : tie.Need-walk-from-requires
 walk-from-requires c κs =
     let s = c .before .before .before .before in
     let first = c .before .first-place .ensures in (
       (s .pre .0 .0, s .pre .0 .1, s .pre .0 .2, s .pre .0 .3 .kept),
-      (s .pre .1 .0, s .pre .1 .1, s .pre .1 .2, s .pre .1 .3, rw first (begins _ _ _ _ _ _ _ (s .pre .0 .3) (s .args .key) (s .pre .1 .3) (omega (arith, c .if1 .left, first))), s .pre .1 .4),
+      (s .pre .1, rw first (begins _ _ _ _ _ _ _ (s .pre .0 .3) (s .args .sought .key) (s .pre .1 .key) (omega (arith, c .if1 .left, first)))),
     )
 
 returns-2 : tie.Need-returns-2

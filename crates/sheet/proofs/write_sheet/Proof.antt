@@ -1,48 +1,53 @@
 -- `sheet::write_sheet` meets its contract: one law for each of its answers. Assumes nothing.
-use mathlib.Core.Path.{_≡_, refl, sym, ap, ap₂, _∙_}
-use mathlib.Core.Bool.{true, _&&_}
-use mathlib.Core.List.{List, _++_, map}
+use mathlib.Core.Path.{_≡_, sym, ap, ap₂, _∙_}
+use mathlib.Core.List.{List, _++_}
 use Prim.Native.Nat.{ℕ, _-_}
 use native.Mathlib.Omega.{arith}
 use lib.ListN.{length, drop}
 use borrow.Author.Needs.{needs}
 use borrow.Rule.Slice.PartMut.{mid-len}
-use Rattle.model.specs.Entries.{strip, listed}
-use Rattle.model.specs.Numbers.{firstOf, entriesSound}
-use Rattle.model.specs.Calls.{Left, held, over, sheet, shape, padded}
-use Rattle.model.proofs.Lists.{and-both}
-use Rattle.model.proofs.Steps.{refused-shape}
-use Rattle.checks.specs.Answers.{lookedAnswer}
-use Rattle.sheet.specs.Text.{Sound}
-use Rattle.sheet.proofs.Answers.{unsound, short, written}
+use Rattle.model.specs.Calls.{Lent, Left, held, overlaid, sheet, answerOf, noCounts, step, acted}
+use Rattle.model.specs.Sound.{Sound}
+use Rattle.model.proofs.Steps.{front-refuses, front-passes}
+use Rattle.model.proofs.Sound.{front-sound}
+use Rattle.answers.proofs.Looked.{refused-out}
+use Rattle.sheet.proofs.Answers.{no-own, short, written}
 use Rattle.sheet.proofs.write_sheet.Statement.{statement}
 use Rattle.sheet.proofs.write_sheet.Tie as tie
 
--- what the tests that were passed say
-shape-sound : (c : tie.Else1) → firstOf (shape (held (c .before .before .before .before .args .h) (c .before .before .before .before .args .store .now))) ≡ 0
-shape-sound c = sym (c .before .shape-number .ensures) ∙ c .if1 .left
+-- ---- what is given
 
-words-sound : (c : tie.Then2) → (padded (held (c .before .before .before .before .before .before .args .h) (c .before .before .before .before .before .before .args .store .now)) && entriesSound (c .before .before .before .before .before .before .args .h .size) (map strip (listed (c .before .before .before .before .before .before .args .h .size) (c .before .before .before .before .before .before .args .h .count) (c .before .before .before .before .before .before .args .store .now)))) ≡ true
-words-sound c = sym (c .before .words-sound .ensures) ∙ c .if2 .taken
+abbrev given : tie.Start → Lent
+given c = held (c .args .h) (c .args .store .now)
 
-sound : (c : tie.Then2) → Sound (c .before .before .before .before .before .before .args .h) (c .before .before .before .before .before .before .args .store .now)
-sound c =
-    let x = held (c .before .before .before .before .before .before .args .h) (c .before .before .before .before .before .before .args .store .now) in
-    record { shape = shape-sound (c .before .before); entries = and-both (padded x) (entriesSound (x .header .size) (map strip (listed (x .header .size) (x .header .count) (x .words)))) (words-sound c) .1 }
+abbrev room : tie.Start → ℕ
+room c = length (c .args .out .now)
 
-shape-number-requires : tie.Need-shape-number-requires
-shape-number-requires c κs = search needs
+abbrev from-1 : tie.Else1 → tie.Start
+from-1 c = c .before .before .before .before
+
+-- ---- what the tests that were passed say
+
+sound : (c : tie.Else1) → Sound (from-1 c .args .h .size) (from-1 c .args .h .count) (from-1 c .args .store .now)
+sound c = front-sound (given (from-1 c)) 0 (sym (c .before .front .ensures) ∙ c .if1 .left)
+
+passed : (c : tie.Else1) → step (sheet (room (from-1 c))) (given (from-1 c)) ≡ acted (sheet (room (from-1 c))) (given (from-1 c))
+passed c = let b = from-1 c in front-passes (sheet (room b)) (given b) 0 _ (no-own (given b) (room b)) (c .before .front .ensures) (c .if1 .left)
+
+-- ---- the answers
+
+front-requires : tie.Need-front-requires
+front-requires c κs = search needs
 
 plain-answer-requires : tie.Need-plain-answer-requires
 plain-answer-requires c κs = search needs
 
 returns : tie.Need-returns
 returns c =
-    let e = refused-shape (sheet (length (c .before .before .before .before .before .args .out .now))) (held (c .before .before .before .before .before .args .h) (c .before .before .before .before .before .args .store .now)) (c .before .before .shape-number .result) (c .before .before .shape-number .ensures) (c .before .if1 .taken) in
-    (c .plain-answer .ensures ∙ sym (ap (λ (l : Left). l .answer) e), sym (ap (λ (l : Left). over (l .output) (c .before .before .before .before .before .args .out .now)) e))
-
-words-sound-requires : tie.Need-words-sound-requires
-words-sound-requires c κs = shape-sound c
+    let n = c .before .before in
+    let b = n .before .before .before in
+    refused-out (given b) (b .args .out .now) _ (c .plain-answer .ensures)
+    (front-refuses (sheet (room b)) (given b) 0 _ (no-own (given b) (room b)) (n .front .ensures) (c .before .if1 .taken))
 
 sheet-len-requires : tie.Need-sheet-len-requires
 sheet-len-requires c κs = sound c
@@ -52,8 +57,9 @@ plain-answer-requires-2 c κs = search needs
 
 returns-2 : tie.Need-returns-2
 returns-2 c =
-    let e = short (held (c .before .before .before .before .before .before .before .before .before .args .h) (c .before .before .before .before .before .before .before .before .before .args .store .now)) (length (c .before .before .before .before .before .before .before .before .before .args .out .now)) (shape-sound (c .before .before .before .before .before)) (words-sound (c .before .before .before)) (rw (← c .before .before .sheet-len .ensures) (c .before .if3 .taken)) in
-    (c .plain-answer2 .ensures ∙ sym (ap (λ (l : Left). l .answer) e), sym (ap (λ (l : Left). over (l .output) (c .before .before .before .before .before .before .before .before .before .args .out .now)) e))
+    let l = c .before .before in
+    let b = from-1 (l .before) in
+    refused-out (given b) (b .args .out .now) 8 (c .plain-answer2 .ensures) (passed (l .before) ∙ short (given b) (room b) (rw (← l .sheet-len .ensures) (c .before .if2 .taken)))
 
 sub-put-sheet : tie.Need-sub-put-sheet
 sub-put-sheet c = search needs
@@ -65,7 +71,10 @@ part-put-sheet-end : tie.Need-part-put-sheet-end
 part-put-sheet-end c = search needs
 
 put-sheet-requires : tie.Need-put-sheet-requires
-put-sheet-requires c κs = (sound (c .before .before .before), mid-len 0 (c .before .before .sheet-len .result) (c .before .before .before .before .before .before .before .before .before .args .out .now) (c .before .if3 .left) ∙ (omega (arith, c .before .before .sheet-len .ensures)))
+put-sheet-requires c κs =
+    let l = c .before .before in
+    let long = l .sheet-len .result in
+    (sound (l .before), mid-len 0 long (from-1 (l .before) .args .out .now) (c .before .if2 .left) ∙ (omega (arith, l .sheet-len .ensures)))
 
 looked-answer-requires : tie.Need-looked-answer-requires
 looked-answer-requires c κs = search needs
@@ -75,29 +84,24 @@ same-length c = search needs
 
 returns-3 : tie.Need-returns-3
 returns-3 c =
-    let out = c .before .before .before .before .before .before .before .before .before .before .before .before .before .args .out .now in
-    let e = written (held (c .before .before .before .before .before .before .before .before .before .before .before .before .before .args .h) (c .before .before .before .before .before .before .before .before .before .before .before .before .before .args .store .now)) (length out) (shape-sound (c .before .before .before .before .before .before .before .before .before)) (words-sound (c .before .before .before .before .before .before .before)) (rw (← c .before .before .before .before .before .before .sheet-len .ensures) (c .before .before .before .before .before .if3 .left)) in
-    let z : c .before .before .before .before .before .before .sheet-len .result - 0 ≡ c .before .before .before .before .before .before .sheet-len .result = omega arith in (
-      c .looked-answer .ensures ∙ ap (lookedAnswer (c .before .before .before .before .before .before .before .before .before .before .before .before .before .args .h) 0) (c .before .before .before .before .before .before .sheet-len .ensures) ∙ sym (ap (λ (l : Left). l .answer) e),
-      ap₂ (λ (t : List ℕ) (k : ℕ). t ++ drop k out) (c .before .before .before .put-sheet .ensures) (z ∙ c .before .before .before .before .before .before .sheet-len .ensures) ∙ sym (ap (λ (l : Left). over (l .output) out) e),
+    let p = c .before .before .before in
+    let two = p .before .before in
+    let l = two .before in
+    let b = from-1 (l .before) in
+    let out = b .args .out .now in
+    let e = passed (l .before) ∙ written (given b) (room b) (rw (← l .sheet-len .ensures) (two .if2 .left)) in
+    let z : l .sheet-len .result - 0 ≡ l .sheet-len .result = omega arith in (
+      c .looked-answer .ensures ∙ ap (answerOf 0 (b .args .h) noCounts 0) (l .sheet-len .ensures) ∙ sym (ap (λ (k : Left). k .answer) e),
+      ap₂ (λ (t : List ℕ) (k : ℕ). t ++ drop k out) (p .put-sheet .ensures) (z ∙ l .sheet-len .ensures) ∙ sym (ap (λ (k : Left). overlaid (k .output) out) e),
     )
-
-plain-answer-requires-3 : tie.Need-plain-answer-requires-3
-plain-answer-requires-3 c κs = search needs
-
-returns-4 : tie.Need-returns-4
-returns-4 c =
-    let e = unsound (held (c .before .before .before .before .before .before .before .args .h) (c .before .before .before .before .before .before .before .args .store .now)) (length (c .before .before .before .before .before .before .before .args .out .now)) (shape-sound (c .before .before .before)) (sym (c .before .before .words-sound .ensures) ∙ c .before .if2 .left) in
-    (c .plain-answer3 .ensures ∙ sym (ap (λ (l : Left). l .answer) e), sym (ap (λ (l : Left). over (l .output) (c .before .before .before .before .before .before .before .args .out .now)) e))
 
 pub write-sheet-spec : {M : Type 1} → statement M
 write-sheet-spec =
     tie.close
     (tie.spec
-    shape-number-requires
+    front-requires
     plain-answer-requires
     returns
-    words-sound-requires
     sheet-len-requires
     plain-answer-requires-2
     returns-2
@@ -107,6 +111,4 @@ write-sheet-spec =
     put-sheet-requires
     looked-answer-requires
     same-length
-    returns-3
-    plain-answer-requires-3
-    returns-4)
+    returns-3)

@@ -6,7 +6,8 @@ use lib.ListN.{length}
 use borrow.Author.Needs.{needs}
 use Rattle.model.specs.Entries.{listed}
 use Rattle.model.proofs.Entries.{length-listed}
-use Rattle.rebuild.proofs.Turns.{Done, changedBelow, begin, turn, below-all, limits, slots-end, slot-end, part-length}
+use Rattle.entries.proofs.Turns.{Done, changedBelow, begin, turn, below-all}
+use Rattle.entries.proofs.Slots.{limits, slots-end, slot-end, part-length}
 use Rattle.spread.specs.Branches.{scaledBy}
 use Rattle.spread.proofs.scale_parents.Statement.{statement}
 use Rattle.spread.proofs.scale_parents.Tie as tie

@@ -25,9 +25,10 @@ note-listed-requires c κs = search needs
 
 merge-parents-requires : tie.Need-merge-parents-requires
 merge-parents-requires c κs =
-    let s = c .before .before .before .before .before .before .before .before .before .before .before .before .before .before .before .before .before in
-    let a = s .args in (
-      (c .before .before .before .before .before .before .before .before .before .before .scale-parents .ensures .0, still-few (a .size) (a .arms .shape) _ (a .count) (now (a .store)) _ (c .before .before .before .before .before .before .before .before .before .before .scale-parents .ensures .1) (s .pre .0 .1), c .before .before .before .before .note-listed .ensures),
+    let s = c .before .before .before .before .before .before .before .before .before .before .before .before .before .before .before .before .before .before in
+    let a = s .args in
+    let scaled = c .before .before .before .before .before .before .before .before .before .before .scale-parents .ensures in (
+      (scaled .0, still-few (a .limits .size) (a .arms .shape) _ (a .count) (now (a .store)) _ (scaled .1) (s .pre .0 .1), c .before .before .before .before .note-listed .ensures),
       (s .pre .1 .0, s .pre .1 .1, c .before .before .before .before .before .before .before .before .before .before .before .before .before .save-weights .ensures .0),
     )
 
@@ -36,11 +37,12 @@ same-length c = search needs
 
 returns : tie.Need-returns
 returns c =
-    let a = c .before .before .before .before .before .before .before .before .before .before .before .before .before .before .before .before .before .before .before .before .args in
+    let a = c .before .before .before .before .before .before .before .before .before .before .before .before .before .before .before .before .before .before .before .before .before .args in
+    let size = a .limits .size in
     let old = c .before .before .before .before .before .before .before .before .before .before .before .before .before .before .before .before .save-weights .ensures in
     let m = c .before .before .merge-parents in
-    let scaled = c .before .before .before .before .before .before .before .before .before .before .before .before .before .scale-parents .ensures .1 ∙ ap (λ (t : Float). map (scaledBy (a .arms .shape) (minus (float oneBits) t)) (listed (a .size) (a .count) (now (a .store)))) (c .before .before .before .before .before .before .before .before .before .before .before .before .before .before .before .total-rate .ensures) in
-    (old .0, old .1, spread-is (a .size) (a .threshold) (a .cutoff) (a .arms) (a .count) _ (now (a .store)) _ _ (m .result) (old .1) scaled (m .ensures))
+    let scaled = c .before .before .before .before .before .before .before .before .before .before .before .before .before .scale-parents .ensures .1 ∙ ap (λ (t : Float). map (scaledBy (a .arms .shape) (minus (float oneBits) t)) (listed size (a .count) (now (a .store)))) (c .before .before .before .before .before .before .before .before .before .before .before .before .before .before .before .total-rate .ensures) in
+    (old .0, old .1, spread-is size (a .limits .threshold) (a .limits .cutoff) (a .arms) (a .count) _ (now (a .store)) _ _ (m .result) (old .1) scaled (m .ensures))
 
 pub spread-spec : {M : Type 1} → statement M
 spread-spec =

@@ -1,23 +1,27 @@
--- `weights::divide_weights` meets its contract. The loop's invariant: with the weights from entry i on divided, the list is the one that is asked
--- for. Assumes nothing.
-use mathlib.Core.Path.{_≡_, refl}
+-- `weights::divide_weights` meets its contract. The loop's invariant: the weights of the first i entries are divided. Assumes nothing.
+use mathlib.Core.Path.{_≡_, _∙_}
 use Prim.Native.Nat.{_*_, _-_, _≤_, _<_}
 use native.Mathlib.Omega.{arith}
 use lib.ListN.{length}
-use Rattle.model.specs.Entries.{entryLen}
+use Rattle.model.specs.Entries.{entryLen, listed}
+use Rattle.model.specs.Store.{keyedWeighed}
+use Rattle.model.specs.Sum.{dividedBy}
 use Rattle.model.specs.declared.Size.{Size}
-use Rattle.model.proofs.Packed.{Packed}
-use Rattle.weights.proofs.Weights.{in-limits, as-long, first-within, Dividing, divided-step, divided-all}
+use Rattle.model.proofs.Entries.{length-listed}
+use Rattle.model.specs.Sound.{Packed}
+use Rattle.entries.proofs.Slots.{in-limits, as-long, first-within}
+use Rattle.entries.proofs.Turns.{Done, begin, below-all}
+use Rattle.weights.proofs.Weights.{divided}
 use Rattle.weights.proofs.divide_weights.Statement.{statement}
 use Rattle.weights.proofs.divide_weights.Tie as tie
 
 abbrev Inv-loop : tie.InvT-loop
-Inv-loop store₀ count by len i₀ store i = (i ≤ count) × ((s : Size) → len ≡ entryLen s → Packed s count store₀ → Dividing by s count store₀ i store)
+Inv-loop store₀ count by len i₀ store i = (i ≤ count) × ((s : Size) → len ≡ entryLen s → Packed s count store₀ → Done s count (λ k. dividedBy keyedWeighed by) i store₀ store)
 
 abbrev μ-loop : tie.MeasureT-loop
 μ-loop store₀ count by len i₀ store i = count - i
 
-dividing : (c : tie.At-loop Inv-loop μ-loop) → Dividing (c .before .before .before .args .by) (c .before .before .before .args .size) (c .before .before .before .args .count) (c .before .before .before .args .store .now) (c .loop .i) (c .loop .store)
+dividing : (c : tie.At-loop Inv-loop μ-loop) → let a = c .before .before .before .args in Done (a .size) (a .count) (λ k. dividedBy keyedWeighed (a .by)) (c .loop .i) (a .store .now) (c .loop .store)
 dividing c = c .loop .inv .1 (c .before .before .before .args .size) (c .before .entry-len .ensures) (c .before .before .before .pre)
 
 same-long : (c : tie.At-loop Inv-loop μ-loop) → length (c .loop .store) ≡ length (c .before .before .before .args .store .now)
@@ -31,7 +35,7 @@ entry-len-requires : tie.Need-entry-len-requires Inv-loop μ-loop
 entry-len-requires c κs = in-limits (c .before .pre)
 
 loop-holds : tie.Need-loop-holds Inv-loop μ-loop
-loop-holds c = (omega arith, λ s e p. record { packed = p; entries = refl })
+loop-holds c = (omega arith, λ s e p. begin s _ _ _ p)
 
 mul-at : tie.Need-mul-at Inv-loop μ-loop
 mul-at c = omega (arith, there c)
@@ -63,13 +67,20 @@ loop-less c = omega arith
 loop-again : tie.Need-loop-again Inv-loop μ-loop
 loop-again c =
     let l = c .before .before .before .before in
-    (omega arith, λ s e p. rw (c .bits-of .ensures, c .before .float-of .ensures, e) (divided-step (l .loop .inv .1 s e p) (c .before .before .before .loop-test .taken)))
+    (omega arith, λ s e p. rw (c .bits-of .ensures, c .before .float-of .ensures, e) (divided (l .before .before .before .args .by) (l .loop .inv .1 s e p) (c .before .before .before .loop-test .taken)))
 
 same-length : tie.Need-same-length Inv-loop μ-loop
 same-length c = same-long (c .before)
 
 returns : tie.Need-returns Inv-loop μ-loop
-returns c = divided-all (dividing (c .before)) (c .loop-test .left)
+returns c =
+    let a = c .before .before .before .before .args in
+    let es = listed (a .size) (a .count) (a .store .now) in
+    let d = dividing (c .before) in
+    record {
+      packed = d .packed;
+      entries = d .entries ∙ below-all (dividedBy keyedWeighed (a .by)) (c .before .loop .i) es (omega (arith, length-listed (a .size) (a .count) (a .store .now)));
+    }
 
 pub divide-weights-spec : {M : Type 1} → statement M
 divide-weights-spec =

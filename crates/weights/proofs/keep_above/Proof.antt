@@ -3,11 +3,9 @@
 use mathlib.Core.Path.{_≡_}
 use mathlib.Core.Logic.{⊎-elim}
 use Prim.Native.Nat.{_*_, _-_, _≤_, _<_}
-use native.Mathlib.Nat.{mul-le-mul-right}
 use native.Mathlib.Omega.{arith}
 use lib.ListN.{length}
-use Rattle.model.proofs.Packed.{within}
-use Rattle.weights.proofs.Weights.{in-limits, as-long, first-within}
+use Rattle.entries.proofs.Slots.{in-limits, as-long, first-within}
 use Rattle.weights.proofs.Kept.{Keeping, none-passed, one-kept, one-gone, all-kept}
 use Rattle.weights.proofs.keep_above.Statement.{statement}
 use Rattle.weights.proofs.keep_above.Tie as tie
@@ -69,38 +67,14 @@ loop-again c =
     (λ w. (omega arith, omega arith, rw (w .1, w .2) (one-gone k h e (d .float-of .ensures) (w .0 .left))))
     (c .if1 .came)
 
--- the slots to be emptied stand in the store
-ends : (c : tie.After-loop Inv-loop μ-loop) → (c .before .loop .j * c .before .before .entry-len .result ≤ c .before .before .before .before .args .count * c .before .before .entry-len .result) × (c .before .before .before .before .args .count * c .before .before .entry-len .result ≤ length (c .before .before .before .before .args .store .now))
-ends c =
-    let n : c .before .loop .j ≤ c .before .before .before .before .args .count = omega arith in
-    (mul-le-mul-right (c .before .before .entry-len .result) n, rw (c .before .before .entry-len .ensures) (within _ _ _ (c .before .before .before .before .pre)))
-
-mul-at : tie.Need-mul-at Inv-loop μ-loop
-mul-at c = omega (arith, ends c)
-
-mul-end : tie.Need-mul-end Inv-loop μ-loop
-mul-end c = omega (arith, ends c)
-
-mul-clear : tie.Need-mul-clear Inv-loop μ-loop
-mul-clear c = omega (arith, ends c)
-
-sub-clear : tie.Need-sub-clear Inv-loop μ-loop
-sub-clear c = omega (arith, ends c)
-
-part-clear-start : tie.Need-part-clear-start Inv-loop μ-loop
-part-clear-start c = omega (arith, ends c)
-
-part-clear-end : tie.Need-part-clear-end Inv-loop μ-loop
-part-clear-end c = omega (arith, ends c, same-long (c .before))
-
-clear-requires : tie.Need-clear-requires Inv-loop μ-loop
-clear-requires c κs = tt
+clear-from-requires : tie.Need-clear-from-requires Inv-loop μ-loop
+clear-from-requires c κs = (c .before .before .loop .inv .2 .packed, omega arith)
 
 returns : tie.Need-returns Inv-loop μ-loop
 returns c =
-    let d = c .before .before .before .before in
-    let l = d .before in
-    all-kept (l .loop .inv .2) (d .loop-test .left) (omega arith) (l .before .entry-len .ensures) (c .before .before .clear .ensures)
+    let l = c .before .before .before .before .before in
+    let e = c .before .before .clear-from .ensures in
+    all-kept (l .loop .inv .2) (c .before .before .before .before .loop-test .left) (e .0) (e .1)
 
 same-length : tie.Need-same-length Inv-loop μ-loop
 same-length c = as-long (returns c .packed) (c .before .before .before .before .before .before .before .before .pre)
@@ -122,12 +96,6 @@ keep-above-spec =
     add-i
     loop-less
     loop-again
-    mul-at
-    mul-end
-    mul-clear
-    sub-clear
-    part-clear-start
-    part-clear-end
-    clear-requires
+    clear-from-requires
     same-length
     returns)

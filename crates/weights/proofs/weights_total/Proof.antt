@@ -7,7 +7,8 @@ use Rattle.model.specs.Entries.{entryLen, listed}
 use Rattle.model.specs.Store.{keyedWeighed}
 use Rattle.model.specs.Sum.{addedTo, total}
 use Rattle.model.specs.declared.Size.{Size}
-use Rattle.weights.proofs.Weights.{in-limits, first-within, added-step, added-all}
+use Rattle.entries.proofs.Slots.{in-limits, first-within}
+use Rattle.weights.proofs.Weights.{added-step, added-all}
 use Rattle.weights.proofs.weights_total.Statement.{statement}
 use Rattle.weights.proofs.weights_total.Tie as tie
 

@@ -1,7 +1,7 @@
 -- `calls::loss::losses` meets its contract: in each arm of the match the call is the one that its instruction stands for. Assumes nothing.
 use denote.Ref.{now}
 use borrow.Author.Needs.{needs}
-use Rattle.model.specs.Calls.{held}
+use Rattle.model.specs.Calls.{held, kindOf}
 use Rattle.drops.specs.declared.Lost.{Lost}
 use Rattle.circuit.specs.declared.lines.Act.{Act}
 use Rattle.calls.specs.Instructions.{callOf}
@@ -12,7 +12,7 @@ use Rattle.calls.proofs.loss.losses.Tie as tie
 
 -- what the call of an instruction loses of what is given
 abbrev lost : tie.Start → Act → Lost
-lost c act = let a = c .args in lostBy (callOf act (a .rates) (a .p) (a .q)) (held (a .h) (now (a .scratch)))
+lost c act = let a = c .args in let o = a .o in lostBy (callOf act (o .rates) (o .p) (o .q)) (held (a .h) (now (a .scratch)))
 
 enum-told : tie.Need-enum-told
 enum-told c = search needs
@@ -57,45 +57,52 @@ depolarize2-requires : tie.Need-depolarize2-requires
 depolarize2-requires c κs = search needs
 
 returns : tie.Need-returns
-returns c = let t = c .before in matched (lost (t .before .before .before)) (t .enum-told .given .1) (c .no-loss .ensures)
+unfolding kindOf
+returns c = let t = c .before in matched (lost (t .before .before .before .before)) (t .enum-told .given .1) (c .no-loss .ensures)
 
 returns-2 : tie.Need-returns-2
-returns-2 c = let t = c .before in matched (lost (t .before .before .before)) (t .enum-told2 .given .1) (c .no-loss2 .ensures)
+unfolding kindOf
+returns-2 c = let t = c .before in matched (lost (t .before .before .before .before)) (t .enum-told2 .given .1) (c .no-loss2 .ensures)
 
 same-length : tie.Need-same-length
 same-length c = search needs
 
 returns-3 : tie.Need-returns-3
+unfolding kindOf
 returns-3 c =
     let t = c .before .before .before .before .before in
-    matched (lost (t .before .before .before)) (t .act .given .1) (c .before .before .channel .ensures)
+    matched (lost (t .before .before .before .before)) (t .act .given .1) (c .before .before .channel .ensures)
 
 same-length-2 : tie.Need-same-length-2
 same-length-2 c = search needs
 
 returns-4 : tie.Need-returns-4
+unfolding kindOf
 returns-4 c =
     let t = c .before .before .before .before in
-    matched (lost (t .before .before .before)) (t .enum-told3 .given .1) (c .before .before .reset-loss-channel .ensures)
+    matched (lost (t .before .before .before .before)) (t .enum-told3 .given .1) (c .before .before .reset-loss-channel .ensures)
 
 returns-5 : tie.Need-returns-5
-returns-5 c = let t = c .before in matched (lost (t .before .before .before)) (t .enum-told4 .given .1) (c .no-loss3 .ensures)
+unfolding kindOf
+returns-5 c = let t = c .before in matched (lost (t .before .before .before .before)) (t .enum-told4 .given .1) (c .no-loss3 .ensures)
 
 same-length-3 : tie.Need-same-length-3
 same-length-3 c = search needs
 
 returns-6 : tie.Need-returns-6
+unfolding kindOf
 returns-6 c =
     let t = c .before .before .before .before in
-    matched (lost (t .before .before .before)) (t .enum-told5 .given .1) (c .before .before .two-qubit-pauli-error .ensures)
+    matched (lost (t .before .before .before .before)) (t .enum-told5 .given .1) (c .before .before .two-qubit-pauli-error .ensures)
 
 same-length-4 : tie.Need-same-length-4
 same-length-4 c = search needs
 
 returns-7 : tie.Need-returns-7
+unfolding kindOf
 returns-7 c =
     let t = c .before .before .before .before .before in
-    matched (lost (t .before .before .before)) (t .act2 .given .1) (c .before .before .depolarize2 .ensures)
+    matched (lost (t .before .before .before .before)) (t .act2 .given .1) (c .before .before .depolarize2 .ensures)
 
 pub losses-spec : {M : Type 1} → statement M
 losses-spec =

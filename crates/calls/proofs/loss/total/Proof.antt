@@ -4,53 +4,28 @@ use denote.Ref.{now}
 use borrow.Author.Tests.{eq-eqb, ne-eqb}
 use borrow.Author.Needs.{needs}
 use Rattle.model.specs.Calls.{Lent, held}
-use Rattle.model.proofs.Sound.{sound-packed}
+use Rattle.model.proofs.Sound.{front-sound}
 use Rattle.calls.specs.Loss.{weightOf}
 use Rattle.calls.proofs.loss.total.Statement.{statement}
 use Rattle.calls.proofs.loss.total.Tie as tie
 
 -- the sum as it is given
-abbrev given : tie.After-shape-number → Lent
+abbrev given : tie.After-front → Lent
 given c = let a = c .before .before .before .args in held (a .h) (now (a .store))
 
-shape-number-requires : tie.Need-shape-number-requires
-shape-number-requires c κs = search needs
+front-requires : tie.Need-front-requires
+front-requires c κs = search needs
 
 returns : tie.Need-returns
 unfolding weightOf
-returns c = rw (← c .before .shape-number .ensures, ne-eqb _ 0 (c .if1 .taken))
-
-words-sound-requires : tie.Need-words-sound-requires
-words-sound-requires c κs = search needs
+returns c = rw (← c .before .front .ensures, ne-eqb _ 0 (c .if1 .taken))
 
 weights-total-requires : tie.Need-weights-total-requires
-weights-total-requires c κs =
-    let s = c .before .before in
-    sound-packed (given (s .before)) (sym (s .before .shape-number .ensures) ∙ s .if1 .left)
-    (sym (c .before .words-sound .ensures) ∙ c .if2 .taken)
+weights-total-requires c κs = front-sound (given (c .before)) 0 (sym (c .before .front .ensures) ∙ c .if1 .left) .packed
 
 returns-2 : tie.Need-returns-2
 unfolding weightOf
-returns-2 c =
-    let w = c .before .before in
-    let s = w .before in
-    rw (← s .before .shape-number .ensures, eq-eqb _ 0 (s .if1 .left), ← w .words-sound .ensures, c .before .if2 .taken)
-    (c .weights-total .ensures)
-
-returns-3 : tie.Need-returns-3
-unfolding weightOf
-returns-3 c =
-    let w = c .before in
-    let s = w .before in
-    rw (← s .before .shape-number .ensures, eq-eqb _ 0 (s .if1 .left), ← w .words-sound .ensures, c .if2 .left)
+returns-2 c = let e = c .before in rw (← e .before .front .ensures, eq-eqb _ 0 (e .if1 .left)) (c .weights-total .ensures)
 
 pub total-spec : {M : Type 1} → statement M
-total-spec =
-    tie.close
-    (tie.spec
-    shape-number-requires
-    returns
-    words-sound-requires
-    weights-total-requires
-    returns-2
-    returns-3)
+total-spec = tie.close (tie.spec front-requires returns weights-total-requires returns-2)

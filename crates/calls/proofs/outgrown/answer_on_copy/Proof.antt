@@ -5,7 +5,7 @@ use denote.Ref.{now}
 use lib.ListN.{length, take, drop}
 use lib.Seq.{length-take-le}
 use borrow.Author.Needs.{needs}
-use Rattle.calls.specs.Instructions.{callOf}
+use Rattle.calls.specs.Instructions.{callOn}
 use Rattle.calls.specs.Stores.{laid}
 use Rattle.calls.proofs.Copies.{laid-length, copy-lent}
 use Rattle.calls.proofs.Outgrowing.{answer-made}
@@ -52,7 +52,7 @@ returns c =
     let m = c .before .before in
     let k = m .before .before .before .before in
     let a = from k .args in
-    answer-made (callOf (a .act) (a .rates) (a .p) (a .q)) (a .h) (m .make .ensures) (lent k)
+    answer-made (callOn (a .o)) (a .h) (m .make .ensures) (lent k)
 
 pub answer-on-copy-spec : {M : Type 1} → statement M
 answer-on-copy-spec =

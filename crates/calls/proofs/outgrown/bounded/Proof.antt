@@ -5,8 +5,8 @@ use lib.Ieee.{nanBits}
 use borrow.Author.Needs.{needs}
 use Rattle.model.specs.Floats.{float}
 use Rattle.model.specs.Calls.{Call, Lent, held}
-use Rattle.calls.specs.Instructions.{callOf}
-use Rattle.calls.specs.Outgrown.{withCutoff, answerOf, boundOf, bounded}
+use Rattle.calls.specs.Instructions.{callOn}
+use Rattle.calls.specs.Outgrown.{withCutoff, answerOn, boundOf, bounded}
 use Rattle.calls.proofs.Copies.{laid-same}
 use Rattle.calls.proofs.Outgrowing.{answer-as, bound-refused, bound-is}
 use Rattle.calls.proofs.outgrown.bounded.Statement.{statement}
@@ -14,7 +14,7 @@ use Rattle.calls.proofs.outgrown.bounded.Tie as tie
 
 -- the call, and the sum as it is given
 abbrev call : tie.Start → Call
-call c = let a = c .args in callOf (a .act) (a .rates) (a .p) (a .q)
+call c = callOn (c .args .o)
 
 abbrev given : tie.Start → Lent
 given c = held (c .args .h) (now (c .args .store))
@@ -24,7 +24,7 @@ from c = c .before .before .before .before .before
 
 answered : (c : tie.After-answer-on-copy) →
     let x = given (from c) in
-    c .answer-on-copy .result ≡ answerOf (call (from c)) (withCutoff (float 0x7fef_ffff_ffff_ffff) (x .header)) (x .words)
+    c .answer-on-copy .result ≡ answerOn (call (from c)) (withCutoff (float 0x7fef_ffff_ffff_ffff) (x .header)) (x .words)
 answered c =
     let b = from c in answer-as (call b) (c .answer-on-copy .ensures) (c .before .before .with-cutoff .ensures) (laid-same (given b .words))
 

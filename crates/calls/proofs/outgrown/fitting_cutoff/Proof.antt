@@ -5,25 +5,25 @@ use denote.Ref.{now}
 use lib.ListN.{length}
 use borrow.Author.Needs.{needs}
 use Rattle.model.specs.Calls.{Call, Lent, held}
-use Rattle.calls.specs.Instructions.{callOf}
-use Rattle.calls.specs.Outgrown.{withCutoff, answerOf, fitting, fittingCutoff}
+use Rattle.calls.specs.Instructions.{callOn}
+use Rattle.calls.specs.Outgrown.{withCutoff, answerOn, fitting, fittingCutoff}
 use Rattle.calls.proofs.Copies.{laid-same}
 use Rattle.calls.proofs.Outgrowing.{answer-as, none-left, above-one, fits, fits-not}
 use Rattle.calls.proofs.outgrown.fitting_cutoff.Statement.{statement}
 use Rattle.calls.proofs.outgrown.fitting_cutoff.Tie as tie
 
 abbrev Inv-loop : tie.InvT-loop
-Inv-loop h store scratch₀ act rates p q cutoff₀ left₀ n scratch cutoff left =
-    let c = callOf act rates p q in
+Inv-loop h store scratch₀ o cutoff₀ left₀ n scratch cutoff left =
+    let c = callOn o in
     let x = held h store in
     (length store ≤ length scratch) × (length scratch ≡ length scratch₀) × (fitting c x left cutoff ≡ fittingCutoff c x)
 
 abbrev μ-loop : tie.MeasureT-loop
-μ-loop h store scratch₀ act rates p q cutoff₀ left₀ n scratch cutoff left = left
+μ-loop h store scratch₀ o cutoff₀ left₀ n scratch cutoff left = left
 
 -- the call, and the sum as it is given
 abbrev call : tie.Start Inv-loop μ-loop → Call
-call c = let a = c .args in callOf (a .act) (a .rates) (a .p) (a .q)
+call c = callOn (c .args .o)
 
 abbrev given : tie.Start Inv-loop μ-loop → Lent
 given c = held (c .args .h) (now (c .args .store))
@@ -34,7 +34,7 @@ from c = c .before .before .before .before
 answered : (c : tie.After-answer-on-copy Inv-loop μ-loop) →
     let l = c .before .before .before .before .before in
     let x = given (from l) in
-    c .answer-on-copy .result ≡ answerOf (call (from l)) (withCutoff (l .loop .cutoff) (x .header)) (x .words)
+    c .answer-on-copy .result ≡ answerOn (call (from l)) (withCutoff (l .loop .cutoff) (x .header)) (x .words)
 answered c =
     let b = from (c .before .before .before .before .before) in
     answer-as (call b) (c .answer-on-copy .ensures) (c .before .before .with-cutoff .ensures) (laid-same (given b .words))

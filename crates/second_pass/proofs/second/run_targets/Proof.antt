@@ -1,6 +1,6 @@
 -- `second_pass::second::run_targets` is safe and ends: each turn goes on in the line. Assumes nothing.
 use mathlib.Core.Path.{_≡_}
-use Prim.Native.Nat.{ℕ, _+_, _-_, _*_, _≤_, _<_}
+use Prim.Native.Nat.{_-_}
 use native.Mathlib.Omega.{arith}
 use lib.ListN.{length}
 use borrow.Author.Needs.{needs}
@@ -8,10 +8,10 @@ use Rattle.second_pass.proofs.second.run_targets.Statement.{statement}
 use Rattle.second_pass.proofs.second.run_targets.Tie as tie
 
 abbrev Inv-loop : tie.InvT-loop
-Inv-loop line l act store₀ scratch₀ wanted pairs run₀ at₀ store scratch run at = (length store ≡ length store₀) × (length scratch ≡ length scratch₀)
+Inv-loop line l act store₀ scratch₀ wanted pairs rates run₀ at₀ store scratch run at = (length store ≡ length store₀) × (length scratch ≡ length scratch₀)
 
 abbrev μ-loop : tie.MeasureT-loop
-μ-loop line l act store₀ scratch₀ wanted pairs run₀ at₀ store scratch run at = length line - at
+μ-loop line l act store₀ scratch₀ wanted pairs rates run₀ at₀ store scratch run at = length line - at
 
 takes-pairs-requires : tie.Need-takes-pairs-requires Inv-loop μ-loop
 takes-pairs-requires c κs = search needs

@@ -1,0 +1,4 @@
+pub mod ChangeTables
+pub mod Flips
+pub mod Packed
+pub mod Tables

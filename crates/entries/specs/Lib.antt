@@ -1,0 +1,4 @@
+pub mod Became
+pub mod Exchanged
+pub mod Holds
+pub mod Within

@@ -1,0 +1,146 @@
+// A pass through the lines of a circuit: where it stands, and how it ended.
+use circuit::Fault;
+use input::Window;
+ghost use mathlib.Core.Path.{_≡_};
+
+// Why a pass stands still.
+pub enum Outcome {
+    // It does not.
+    Going,
+    // The circuit's end.
+    Done,
+    // A word of the line is at fault.
+    Bad(Fault),
+    // Its rates are: number 4 would be given.
+    Rates,
+    // The line has no end within the window.
+    TooLong,
+    // It could not be read; its copy was cut.
+    Failed,
+    Cut,
+    // REPEAT in 64 others; `}` with no REPEAT; the REPEAT of this line without `}`.
+    TooDeep,
+    NoRepeat,
+    Unclosed(u64),
+    // A call on these qubits gave this number.
+    Refused(u64, usize, usize),
+    // After a call more has been lost of the initial weight, this fraction of it, than is allowed.
+    TooMuchLost(f64),
+    // A line of the trace could not be written.
+    Unwritten,
+}
+
+// The window and the number of the line that was read last, and how many REPEATs are open; the word that the outcome speaks of, from a place
+// of the line to another.
+pub struct Pass {
+    pub window: Window,
+    pub line: u64,
+    pub depth: usize,
+    pub outcome: Outcome,
+    pub from: usize,
+    pub to: usize,
+}
+
+pub fn start() -> Pass {
+    Pass {
+        window: input::start(),
+        line: 0,
+        depth: 0,
+        outcome: Outcome::Going,
+        from: 0,
+        to: 0,
+    }
+}
+
+// One more than n, as far as numbers go.
+pub fn next(n: u64) -> u64 {
+    if n < u64::MAX {
+        return n + 1;
+    }
+    n
+}
+
+// The pass at its next line.
+pub fn moved(pass: Pass, window: Window) -> Pass
+    ensures { λ r. ⌜ (r .window .from ≡ window .from) × (r .window .to ≡ window .to) ⌝ }
+{
+    Pass {
+        window,
+        line: next(pass.line),
+        depth: pass.depth,
+        outcome: Outcome::Going,
+        from: 0,
+        to: 0,
+    }
+}
+
+// .. ends, at a word.
+pub fn ended(pass: Pass, outcome: Outcome, from: usize, to: usize) -> Pass {
+    let window = pass.window;
+    Pass {
+        window,
+        line: pass.line,
+        depth: pass.depth,
+        outcome,
+        from,
+        to,
+    }
+}
+
+// .. is in or out of a block.
+pub fn at_depth(pass: Pass, depth: usize) -> Pass {
+    let window = pass.window;
+    Pass {
+        window,
+        line: pass.line,
+        depth,
+        outcome: Outcome::Going,
+        from: 0,
+        to: 0,
+    }
+}
+
+// .. goes on after a bad line.
+pub fn resumed(pass: Pass) -> Pass {
+    at_depth(pass, pass.depth)
+}
+
+// .. goes on at another offset, after this line.
+pub fn jumped(pass: Pass, offset: u64, line: u64) -> Pass {
+    Pass {
+        window: input::jumped(pass.window, offset),
+        line,
+        depth: pass.depth,
+        outcome: Outcome::Going,
+        from: 0,
+        to: 0,
+    }
+}
+
+pub fn is_going(pass: Pass) -> bool {
+    let outcome = pass.outcome;
+    match outcome {
+        Outcome::Going => true,
+        _ => false,
+    }
+}
+
+// It can go on past the line where it stands: the lines after it can still be looked at.
+pub fn can_go_on(pass: Pass) -> bool {
+    let outcome = pass.outcome;
+    match outcome {
+        Outcome::Bad(_) => true,
+        Outcome::Rates => true,
+        Outcome::TooDeep => true,
+        Outcome::NoRepeat => true,
+        _ => false,
+    }
+}
+
+pub fn is_done(pass: Pass) -> bool {
+    let outcome = pass.outcome;
+    match outcome {
+        Outcome::Done => true,
+        _ => false,
+    }
+}

@@ -1,0 +1,3 @@
+pub mod Viewing
+pub mod Looking
+pub mod LookingAt
