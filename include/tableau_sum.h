@@ -61,8 +61,8 @@ extern "C" {
 #define TABLEAU_SUM_PAIRS 15
 
 /*
- * Every call takes less stack than this. Measured by examples/c/stack.c, as gcc builds it: at most 28,808 bytes, by a channel on a dirty
- * sum. (31,976 where the dynamic linker has to find memcpy in the middle of that call.)
+ * Every call takes less stack than this. Measured by examples/c/stack.c, as gcc builds it: at most 28,872 bytes, by a channel on a dirty
+ * sum. (32,008 where the dynamic linker has to find memcpy in the middle of that call.)
  */
 #define TABLEAU_SUM_STACK_BYTES 32768
 
