@@ -9,7 +9,7 @@ use Rattle.model.specs.Keys.{keyed}
 use Rattle.model.specs.Store.{keyedWeighed, weightOf, reweighed}
 use Rattle.model.specs.Calls.{rebuiltEntries}
 use Rattle.entries.proofs.Turns.{changedBelow}
-use Rattle.rebuild.specs.Saved.{eachBy, withWeights, withWordKey, withPhaseKey, withKeyWords}
+use Rattle.rebuild.specs.Saved.{eachBy, withWeights, withWordKey, withPhaseLossKey, withKeyWords}
 
 -- an entry with its weight set aside
 unfoldable pub unweighed : Keyed → Keyed
@@ -38,15 +38,15 @@ abbrev pub withKeysOf : List Keyed → List Keyed → List Keyed
 withKeysOf es ds = withKeyWords (map (λ e. e .wordKey) es) (map (λ e. e .phaseLossKey) es) ds
 
 pub keys-back : (ds es rest : List Keyed) → map strip ds ≡ map strip es → withKeysOf es (ds ++ rest) ≡ es ++ rest
-unfolding withKeyWords eachBy withWordKey withPhaseKey
+unfolding withKeyWords eachBy withWordKey withPhaseLossKey
 keys-back =
     all-back strip withKeysOf (λ ds. refl)
     (λ d e ds es p. ap (λ (x : Entry). record { entry = x; wordKey = e .wordKey; phaseLossKey = e .phaseLossKey } ∷ withKeysOf es ds) p)
 
 -- one key after the other
-pub both-keys : {ds ws : List Keyed} (words phases : List ℕ) (es : List Keyed) → ws ≡ eachBy withWordKey words es → ds ≡ eachBy withPhaseKey phases ws → ds ≡ withKeyWords words phases es
+pub both-keys : {ds ws : List Keyed} (words phases : List ℕ) (es : List Keyed) → ws ≡ eachBy withWordKey words es → ds ≡ eachBy withPhaseLossKey phases ws → ds ≡ withKeyWords words phases es
 unfolding withKeyWords
-both-keys words phases es p q = q ∙ ap (eachBy withPhaseKey phases) p
+both-keys words phases es p q = q ∙ ap (eachBy withPhaseLossKey phases) p
 
 -- ---- where nothing stands behind it
 

@@ -14,13 +14,13 @@ use Rattle.model.specs.declared.Size.{Size}
 use Rattle.model.proofs.Groups.{groups-add}
 use Rattle.model.proofs.Packed.{words-entry}
 use Rattle.entries.specs.Became.{Became}
-use Rattle.rebuild.specs.Saved.{wordAt, withWord, withLoss, withWordKey, withPhaseKey}
+use Rattle.rebuild.specs.Saved.{wordAt, withWord, withLoss, withWordKey, withPhaseLossKey}
 
 -- a word written, which the rows are behind
 put-field : (s : Size) (j v a b c d f : ℕ) (r : List ℕ) → j < 4
     → drop (headLen + coefsLen s) (set (a ∷ b ∷ c ∷ d ∷ f ∷ r) j v) ≡ drop (headLen + coefsLen s) (a ∷ b ∷ c ∷ d ∷ f ∷ r)
     → entryOf s (set (a ∷ b ∷ c ∷ d ∷ f ∷ r) j v) ≡ withWord j v (entryOf s (a ∷ b ∷ c ∷ d ∷ f ∷ r))
-unfolding entryOf withWord withLoss withWordKey withPhaseKey reweighed
+unfolding entryOf withWord withLoss withWordKey withPhaseLossKey reweighed
 put-field s zero v a b c d f r h e = rw e
 put-field s (suc zero) v a b c d f r h e = rw e
 put-field s (suc (suc zero)) v a b c d f r h e = rw e

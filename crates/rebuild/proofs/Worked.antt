@@ -14,7 +14,7 @@ use Rattle.model.specs.Calls.{rebuiltEntries}
 use Rattle.model.specs.declared.Size.{Size}
 use Rattle.model.proofs.Lists.{getD-mapped}
 use Rattle.model.proofs.Entries.{length-listed, listed-at}
-use Rattle.rebuild.specs.Saved.{phaseLossKeyAt, eachBy, withWordKey, withPhaseKey, withKeyWords}
+use Rattle.rebuild.specs.Saved.{phaseLossKeyAt, eachBy, withWordKey, withPhaseLossKey, withKeyWords}
 
 -- the first i words are f 0, f 1, ..
 pub record Worked (f : ℕ → ℕ) (i : ℕ) (found : List ℕ) : Type 0 where
@@ -60,7 +60,7 @@ phase-loss-key-is {r} {loss} {rows} {salts} s w i e es er el =
 
 -- the two keys of each entry, put into it
 keys-rebuilt : (n : ℕ) (es : List Keyed) → withKeyWords (map (λ e. wordKeyOf n (e .entry .body)) es) (map (λ e. phaseLossKeyOf usualSalts n (e .entry .body)) es) es ≡ rebuiltEntries n es
-unfolding withKeyWords eachBy withWordKey withPhaseKey rebuiltEntries keyed
+unfolding withKeyWords eachBy withWordKey withPhaseLossKey rebuiltEntries keyed
 keys-rebuilt n [] = refl
 keys-rebuilt n (e ∷ es) = ap (λ (l : List Keyed). keyed usualSalts n (e .entry) ∷ l) (keys-rebuilt n es)
 

@@ -20,12 +20,12 @@ withWeights ws es = eachBy (reweighed keyedWeighed) ws es
 unfoldable pub withWordKey : ℕ → Keyed → Keyed
 withWordKey k e = record { entry = e .entry; wordKey = k; phaseLossKey = e .phaseLossKey }
 
-unfoldable pub withPhaseKey : ℕ → Keyed → Keyed
-withPhaseKey p e = record { entry = e .entry; wordKey = e .wordKey; phaseLossKey = p }
+unfoldable pub withPhaseLossKey : ℕ → Keyed → Keyed
+withPhaseLossKey p e = record { entry = e .entry; wordKey = e .wordKey; phaseLossKey = p }
 
 -- the first entries given these word keys and these phase-loss keys
 unfoldable pub withKeyWords : (words phases : List ℕ) → List Keyed → List Keyed
-withKeyWords words phases es = eachBy withPhaseKey phases (eachBy withWordKey words es)
+withKeyWords words phases es = eachBy withPhaseLossKey phases (eachBy withWordKey words es)
 
 -- the keys worked out anew from the entry at place i of a store
 abbrev pub wordKeyAt : Size → List ℕ → ℕ → ℕ
@@ -55,4 +55,4 @@ unfoldable pub withWord : ℕ → ℕ → Keyed → Keyed
 withWord zero = reweighed keyedWeighed
 withWord (suc zero) = withLoss
 withWord (suc (suc zero)) = withWordKey
-withWord (suc (suc (suc j))) = withPhaseKey
+withWord (suc (suc (suc j))) = withPhaseLossKey

@@ -1,7 +1,7 @@
 -- Demand 3 as a promise of compiled code: what comes back of a run from a start on, said by the list kept without keys. What the calls gave
 -- is read from the records and the text. The engine's start and step, its walk over keys and its rule for the flag do not occur here; it
--- shares with this promise how words are read as entries (`sumOf`), the keys worked out from them (`rebuiltEntries`), and the header of a
--- refused start (`zeroHeader`). Assumes nothing.
+-- shares with this promise how words are read as entries (`sumOf`), the keys worked out from them (`rebuiltEntries`), the header of a refused
+-- start (`zeroHeader`), and as what a call shows something (`formOf`: words, bytes, or an entry's words). Assumes nothing.
 use Prim.Native.Nat.{ℕ}
 use mathlib.Core.Path.{_≡_}
 use mathlib.Core.Bool.{Bool, true, false}

@@ -61,7 +61,7 @@ abbrev pub ranAll : ℕ → List Call → Lent → List ℕ → List ℕ → Cam
 ranAll bytes cs x log text =
     record { number = 0; lent = afterCalls cs x; log = filled recordWords recordOf cs x log; text = filled bytes textOf cs x text }
 
--- the calls on a sum
+-- all calls on the sum x; or, if they do not fit, that number and nothing written
 unfoldable pub ranOn : ℕ → List ℕ → Lent → List ℕ → List ℕ → Came
 ranOn bytes calls x log text =
     cond (fits bytes calls (length log) (length text)) (ranAll bytes (callsIn bytes calls) x log text) (untouched doesNotFit x log text)
