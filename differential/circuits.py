@@ -1,7 +1,7 @@
 """What run_circuit does with a circuit, by a parser of its own over the calls of second.py.
 
-    circuits.py                                    examples/expected/ agrees with it
-    circuits.py sheet|table|trace|summary FILE     prints one, with the options that the file names
+    circuits.py                                         examples/expected/ agrees with it
+    circuits.py sheet|page|table|trace|summary FILE     prints one, with the options that the file names
 
 A comment in an example names the options that it is run with. Of a table, a trace or a summary the numbers are compared, floats to 8
 digits: run_circuit works its digits out in floats.
@@ -296,6 +296,10 @@ def sheet(header, words, shown, lost):
     return second.write_sheet(header, words, 1 << 24)[1].decode()
 
 
+def page(header, words, shown, lost):
+    return second.write_page(header, words, 1 << 24)[1].decode()
+
+
 def table(header, words, shown, lost):
     length = second.entry_length(header.n, header.k)
     rows = []
@@ -328,8 +332,8 @@ def same(given, wanted):
 
 
 def agrees(name, kind, given, wanted):
-    if kind == "sheet":
-        assert given == wanted, f"{name}: another sheet"
+    if isinstance(wanted, str):
+        assert given == wanted, f"{name}: another {kind}"
         return
     rows = numbers(given)
     assert len(rows) == len(wanted), f"{name}.{kind}: {len(rows)} rows, {len(wanted)} wanted"
@@ -337,7 +341,7 @@ def agrees(name, kind, given, wanted):
         assert len(row) == len(want) and all(map(same, row, want)), f"{name}.{kind}: {row}, wanted {want}"
 
 
-KINDS = {"sheet": sheet, "table": table, "trace": trace, "summary": summary}
+KINDS = {"sheet": sheet, "page": page, "table": table, "trace": trace, "summary": summary}
 
 
 def main(words):

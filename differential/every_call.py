@@ -61,6 +61,8 @@ class Sum:
         number, words = view(self.header, self.words, 3)
         tell("view", number, self.header, digest(words), length=len(words))
         print(f"view_word {words[3]:016x} {0:016x}")
+        number, text = write_page(self.header, self.words, 35 * CAPACITY)
+        tell("write_page", number, self.header, digest(text), length=len(text))
 
     def sheet(self):
         number, text = write_sheet(self.header, self.words, 1 << 20)
@@ -83,6 +85,7 @@ class Sum:
         self.told("read_sheet", read_sheet(text, words))
         self.told("read_sheet", read_sheet(text[:-1], words))
         self.refused("write_sheet", write_sheet(header, words, 126)[0])
+        self.refused("write_page", write_page(header, words, 35 * header.count - 1)[0])
         self.refused("pick", pick(header, words, 1.0)[0])
 
 

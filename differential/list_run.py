@@ -52,8 +52,9 @@ def some_calls(r):
         lambda: pick(bits_of(r.random())),
         lambda: sheet,
         lambda: view(r.randrange(12)),
+        lambda: page,
     ]
-    return [kind() for kind in kinds] + [r.choice(kinds)() for _ in range(48)] + [sheet]
+    return [kind() for kind in kinds] + [r.choice(kinds)() for _ in range(47)] + [sheet]
 
 
 def run(start, calls):
@@ -85,12 +86,14 @@ def tell(header, words, dirty, lines):
 
 def main():
     second.find = find
-    calls = some_calls(random.Random(4))
+    # of the first forty seeds the one with most pages whose last sheet has room
+    calls = some_calls(random.Random(36))
     give(FRESH, N, K, CAPACITY, THRESHOLD, CUTOFF, LENGTH)
     for call in calls:
         give(call.kind, call.p, call.q, *call.rates)
     start = second.fresh(N, K, CAPACITY, THRESHOLD, CUTOFF, [7] * (CAPACITY * LENGTH))
     header, words, lines, sheet_text = run(start, calls)
+    assert sheet_text, "the second run begins with the last sheet"
     tell(header, words, flag_after(False, calls, lines), lines)
     start = second.read_sheet(sheet_text, [7] * (CAPACITY * LENGTH))
     header, words, lines, _ = run(start, calls)

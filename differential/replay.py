@@ -6,6 +6,7 @@ import calls
 import fresh_sums
 import large_sum
 import marked_runs
+import pages
 import sampling
 import sheets_read
 import sheets_written
@@ -22,6 +23,6 @@ def sample():
 
 
 def main():
-    for cases in marked_runs, fresh_sums, calls, sampling, sheets_written, sheets_read, large_sum:
+    for cases in marked_runs, fresh_sums, calls, sampling, sheets_written, sheets_read, large_sum, pages:
         cases.main()
     sample()

@@ -1,9 +1,9 @@
 #!/usr/bin/env python3
-"""A second program for document 01.
+"""A second program for document 01, and for the requests of document 02 that are built.
 
 Masks, keys, likeness, merging, channels, reset, gates, truncate, normalise and fresh were written from document 01's text; of the code
-only the calls' names, arguments and contracts were known. The table, the pick, the view and the sheet, written and read, were written
-with the code known, so they show slips more than misreadings.
+only the calls' names, arguments and contracts were known. The table, the pick, the view, the sheet, written and read, and the page were
+written with the code known, so they show slips more than misreadings.
 
 A sum is a header and a list of 64-bit words, laid out as "Store words" says. Each call takes both and gives the number,
 the header, the four counts and the words as they are afterwards; a refused call gives back what it was given.
@@ -487,13 +487,17 @@ def sheet_text(header, words):
     return text
 
 
-def write_sheet(header, words, room):
+def written(text_of, header, words, room):
     """The number, and the bytes written."""
     number = first_refusal(header, words)
     if number:
         return number, b""
-    text = sheet_text(header, words).encode()
+    text = text_of(header, words).encode()
     return (8, b"") if room < len(text) else (0, text)
+
+
+def write_sheet(header, words, room):
+    return written(sheet_text, header, words, room)
 
 
 # Point 9: the sheet, read.
@@ -565,6 +569,24 @@ def read_sheet(text, words):
         return Answer(number, ZERO_HEADER, NO_COUNTS, words)
     laid = [w for part in parts for w in words_on(*part, k)]
     return Answer(0, header, NO_COUNTS, laid + [0] * (len(words) - len(laid)))
+
+
+# Document 02, request 1: the weight page.
+
+
+def share(weight):
+    """In parts per million, cut down: exactly, by the fraction that the float is."""
+    numerator, denominator = weight.as_integer_ratio()
+    return numerator * 1_000_000 // denominator
+
+
+def page_text(header, words):
+    entries = enumerate(entries_of(header, words), 1)
+    return "".join(f"{place:>5}{share(e.weight):>11}  {e.loss:016X}\n" for place, e in entries)
+
+
+def write_page(header, words, room):
+    return written(page_text, header, words, room)
 
 
 PROGRAMS = ("masks_run", "view_run", "replay", "list_run", "planner", "every_call")

@@ -6,7 +6,7 @@ import second
 from second import bits_of
 
 # Kinds of calls, as crates/perform has them.
-PAULI, LOSS, DEPOLARIZING, PAIRS, DEPOLARIZE2, RESET, H, S, CNOT, TRUNCATE, NORMALISE, TABLE, PICK, SHEET, VIEW = range(15)
+PAULI, LOSS, DEPOLARIZING, PAIRS, DEPOLARIZE2, RESET, H, S, CNOT, TRUNCATE, NORMALISE, TABLE, PICK, SHEET, VIEW, PAGE = range(16)
 # Other items of crates/replay.
 FRESH, READ, WORD_AT, ALL_WORDS, LARGE, SHOW, BYTE_AT, ALL_BYTES, TITLE = range(20, 29)
 LENT = 30
@@ -105,12 +105,18 @@ def pick(bits):
     return Call(PICK, 0, 0, [second.float_of(bits)], make)
 
 
-def make_sheet(h, w, room):
-    number, text = second.write_sheet(h, w, room)
-    return looked(number, h, w), Shown(0, len(text), [], text)
+def writing(kind, write):
+    """A call that writes text."""
+
+    def make(h, w, room):
+        number, text = write(h, w, room)
+        return looked(number, h, w), Shown(0, len(text), [], text)
+
+    return Call(kind, 0, 0, [], make)
 
 
-sheet = Call(SHEET, 0, 0, [], make_sheet)
+sheet = writing(SHEET, second.write_sheet)
+page = writing(PAGE, second.write_page)
 
 
 def view(place):

@@ -25,7 +25,7 @@
  *   - Arithmetic rounds to nearest and keeps subnormal numbers. Programs start so, unless they are linked with gcc's -ffast-math.
  *
  * WHAT IS PROMISED, by proof. Whatever the numbers, headers and words are, a call ends, touches the slices only inside their lengths,
- * and gives exactly what document 01 of the project says. For a sum that was begun by tableau_sum_fresh or tableau_sum_read_sheet, and
+ * and gives exactly what documents 01 and 02 of the project say. For a sum that was begun by tableau_sum_fresh or tableau_sum_read_sheet, and
  * whose header and store nothing but these calls has written since, no branch misses an equal entry because of stale keys.
  *
  * Calls on different stores may run at the same time in different threads.
@@ -128,7 +128,7 @@ typedef struct tableau_sum_answer {
     tableau_sum_header header; /* as it is now. Refused: as it was given; from fresh and read_sheet, zeros */
     tableau_sum_counts counts;
     size_t place;  /* pick: the place of the entry that was picked */
-    size_t length; /* table, write_sheet: elements written; view: words of the entry */
+    size_t length; /* table, write_sheet, write_page: elements written; view: words of the entry */
 } tableau_sum_answer;
 
 /* The layout that the library was built for. */
@@ -281,6 +281,17 @@ TABLEAU_SUM_CALL tableau_sum_answer tableau_sum_write_sheet(tableau_sum_header h
                                                             size_t out_len);
 
 /*
+ * The weight page of the sum: ASCII text with no 0 at its end, one line of TABLEAU_SUM_PAGE_LINE bytes for each entry in list order. Its
+ * place, from 1, in 5 columns; its share in parts per million, which is the exact weight times 1,000,000 cut down to a whole number, in 11;
+ * two spaces; its loss word as 16 hexadecimal capitals, highest qubits first; a line end. An empty sum has an empty page.
+ * out: room for tableau_sum_page_bytes of the size is always enough; bytes past the text stay as they are. The answer's length counts
+ * bytes.
+ * Numbers: 1, 2, 5, 8.
+ */
+TABLEAU_SUM_CALL tableau_sum_answer tableau_sum_write_page(tableau_sum_header h, const uint64_t *store, size_t store_len, uint8_t *out,
+                                                           size_t out_len);
+
+/*
  * A view of the entry at a place, from 0: the answer's length is that of its stretch, which begins at store[place * length].
  * Numbers: 1, 2, 3, 5.
  */
@@ -356,6 +367,19 @@ static inline size_t tableau_sum_sheet_bytes(tableau_sum_size size)
     if (tableau_sum_entry_words(size) == 0)
         return 0;
     return (6 * TABLEAU_SUM_COLUMNS + 1) + size.capacity * (1 + size.k + 2 * size.n) * (3 * TABLEAU_SUM_COLUMNS + 1);
+}
+
+/* ---- pages */
+
+/* Bytes of a line of a page: 34 columns, and the line's end. */
+#define TABLEAU_SUM_PAGE_LINE 35
+
+/* The most bytes that the page of a sum of this size has, with every slot in use; 0 if it is outside its limits. */
+static inline size_t tableau_sum_page_bytes(tableau_sum_size size)
+{
+    if (tableau_sum_entry_words(size) == 0)
+        return 0;
+    return size.capacity * TABLEAU_SUM_PAGE_LINE;
 }
 
 /* The number in the field that begins at `field`, or 0 if it is no number below 1000. */

@@ -94,6 +94,8 @@ static void looks(void)
     tell("view", a, digest_of(store + 3 * a.length, a.length));
     printf("view_word %016" PRIx64 " %016" PRIx64 "\n", tableau_sum_view_word(header, store, WORDS, 3, TABLEAU_SUM_PHASE_LOSS_KEY),
            tableau_sum_view_word(header, store, WORDS, 3, a.length));
+    a = tableau_sum_write_page(header, store, WORDS, text, tableau_sum_page_bytes(size));
+    tell("write_page", a, digest_of_text(a.length));
 }
 
 /* Writes a number into the text, as the field that begins at this byte. */
@@ -134,6 +136,7 @@ static void refusals(size_t text_len)
     refused("read_sheet", tableau_sum_read_sheet(text, text_len, store, WORDS));
     refused("read_sheet", tableau_sum_read_sheet(text, text_len - 1, store, WORDS));
     refused("write_sheet", tableau_sum_write_sheet(header, store, WORDS, text, 126));
+    refused("write_page", tableau_sum_write_page(header, store, WORDS, text, header.count * TABLEAU_SUM_PAGE_LINE - 1));
     refused("pick", tableau_sum_pick(header, store, WORDS, 1));
 }
 
@@ -173,6 +176,7 @@ static bool bounds_kept(tableau_sum_header h, uint64_t number)
         tableau_sum_pick(h, store, WORDS, 0),
         tableau_sum_write_sheet(h, store, WORDS, text, sizeof text),
         tableau_sum_view(h, store, WORDS, 0),
+        tableau_sum_write_page(h, store, WORDS, text, sizeof text),
     };
     for (size_t i = 0; i < sizeof answers / sizeof answers[0]; i++) {
         const tableau_sum_header given = answers[i].header;

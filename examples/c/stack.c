@@ -87,6 +87,7 @@ CALL(normalise, header, store, WORDS)
 CALL(table, header, store, WORDS, out, out_len)
 CALL(pick, header, store, WORDS, draw)
 CALL(write_sheet, header, store, WORDS, text, room)
+CALL(write_page, header, store, WORDS, text, room)
 CALL(view, header, store, WORDS, place)
 
 /* It gives no number. */
@@ -314,6 +315,7 @@ static struct call calls[] = {
     {"table", table, trials, &paulis, TABLEAU_SUM_SHORT_OUTPUT, 0, ""},
     {"pick", pick, trials, &paulis, TABLEAU_SUM_BAD_DRAW, 0, ""},
     {"write_sheet", write_sheet, trials, &paulis, TABLEAU_SUM_SHORT_OUTPUT, 0, ""},
+    {"write_page", write_page, trials, &paulis, TABLEAU_SUM_SHORT_OUTPUT, 0, ""},
     {"view", view, trials, &paulis, TABLEAU_SUM_BAD_PLACE, 0, ""},
     {"view_word", view_word, word_trials, &paulis, TABLEAU_SUM_BAD_PLACE, 0, ""},
 };

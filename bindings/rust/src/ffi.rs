@@ -42,6 +42,7 @@ extern "C" {
     pub fn tableau_sum_table(h: Header, store: *const u64, store_len: usize, out: *mut u64, out_len: usize) -> Answer;
     pub fn tableau_sum_pick(h: Header, store: *const u64, store_len: usize, draw: f64) -> Answer;
     pub fn tableau_sum_write_sheet(h: Header, store: *const u64, store_len: usize, out: *mut u8, out_len: usize) -> Answer;
+    pub fn tableau_sum_write_page(h: Header, store: *const u64, store_len: usize, out: *mut u8, out_len: usize) -> Answer;
     pub fn tableau_sum_view(h: Header, store: *const u64, store_len: usize, place: usize) -> Answer;
     pub fn tableau_sum_view_word(h: Header, store: *const u64, store_len: usize, place: usize, i: usize) -> u64;
 }
@@ -61,7 +62,7 @@ mod tests {
     const SIZE: Size = Size { n: 1, k: 1, capacity: 1 };
 
     /// Every call that takes a header, with this one and a store of zeros.
-    fn answers(h: Header) -> [Answer; 15] {
+    fn answers(h: Header) -> [Answer; 16] {
         let (mut store, mut out, mut text) = ([0; 14], [0; 2], [0; 1]);
         let (to, len) = (store.as_mut_ptr(), store.len());
         let from = to.cast_const();
@@ -82,6 +83,7 @@ mod tests {
                 tableau_sum_table(h, from, len, out.as_mut_ptr(), out.len()),
                 tableau_sum_pick(h, from, len, 0.0),
                 tableau_sum_write_sheet(h, from, len, text.as_mut_ptr(), text.len()),
+                tableau_sum_write_page(h, from, len, text.as_mut_ptr(), text.len()),
                 tableau_sum_view(h, from, len, 0),
             ]
         }

@@ -1,7 +1,8 @@
 //! Weighted sums of stabilizer tableaux under Pauli and loss noise: a safe interface to `libtableau_sum.a`, an engine that is proved.
 //!
 //! A [`TableauSum`] is a list of entries, each a tableau with a weight. Channels make branches; a branch that equals an entry merges into
-//! it, others are kept if their weight is above the cutoff. A shot planner reads the sampling table, or the sheet, which is text.
+//! it, others are kept if their weight is above the cutoff. A shot planner reads the sampling table, or the sheet, which is text; people read
+//! the page.
 //!
 //! ```
 //! use tableau_sum::{Error, Size, TableauSum};
@@ -17,13 +18,15 @@
 //! assert_eq!((place, total), (0, 0.97));
 //! assert_eq!(sum.pick(0.985)?, 2);
 //! assert_eq!(TableauSum::read_sheet(sum.sheet()?)?.len(), 4);
+//! // place, exact weight in parts per million, losses; the float 0.97 is a little below 97/100
+//! assert_eq!(sum.page()?.lines().next(), Some("    1     969999  0000000000000000"));
 //! assert_eq!(sum.loss_channel(3, 0.1), Err(Error::BadPlace)); // there is no qubit 3
 //! # Ok::<(), Error>(())
 //! ```
 //!
 //! # What is promised
 //!
-//! Proved of the library: each call gives exactly what document 01 of the project says, for every input; it ends, stays inside the memory
+//! Proved of the library: each call gives exactly what documents 01 and 02 of the project say, for every input; it ends, stays inside the memory
 //! that it is lent, and changes nothing if it is refused; no list of calls leaves stale keys behind that make a branch miss its equal. The
 //! library never panics and never unwinds. It has no state of its own, so a [`TableauSum`] is [`Send`] and [`Sync`] like the vector that it
 //! owns. In a thread with a small stack, [`STACK_BYTES`] says what a call takes.

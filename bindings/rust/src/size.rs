@@ -11,6 +11,8 @@ pub const STACK_BYTES: usize = 32768;
 
 /// Columns of a field of a sheet.
 const COLUMNS: usize = 21;
+/// Bytes of a line of a page: 34 columns, and the line's end.
+pub(crate) const PAGE_LINE: usize = 35;
 
 /// How large a sum can be. Each number is at least 1.
 #[repr(C)]

@@ -1,4 +1,5 @@
 use crate::ffi::{self, Answer, Header};
+use crate::size::PAGE_LINE;
 use crate::{Entry, Error, Size};
 use std::fmt;
 
@@ -201,6 +202,24 @@ impl TableauSum {
     /// [`Error::ShortOutput`]; nothing is written then.
     pub fn write_sheet(&self, out: &mut [u8]) -> Result<usize, Error> {
         let answer = self.look(|h, store, len| unsafe { ffi::tableau_sum_write_sheet(h, store, len, out.as_mut_ptr(), out.len()) })?;
+        Ok(answer.length)
+    }
+
+    /// The weight page of the sum: ASCII text, a line of 34 columns for each entry, in list order. Its place, from 1; its share in parts per
+    /// million, which is the exact weight times 1,000,000 cut down to a whole number; its loss word as 16 hexadecimal capitals, highest
+    /// qubits first. The page of an empty sum is empty.
+    pub fn page(&self) -> Result<String, Error> {
+        let mut out = vec![0; PAGE_LINE * self.len()];
+        self.write_page(&mut out)?;
+        Ok(String::from_utf8(out).expect("a page is ASCII"))
+    }
+
+    /// Writes the page to the start of `out`, and gives its length in bytes. What stands behind it in `out` stays.
+    ///
+    /// # Errors
+    /// [`Error::ShortOutput`]; nothing is written then.
+    pub fn write_page(&self, out: &mut [u8]) -> Result<usize, Error> {
+        let answer = self.look(|h, store, len| unsafe { ffi::tableau_sum_write_page(h, store, len, out.as_mut_ptr(), out.len()) })?;
         Ok(answer.length)
     }
 

@@ -27,11 +27,11 @@ struct Told {
     digest: u64,
 }
 
-struct Page {
+struct Report {
     lines: String,
 }
 
-impl Page {
+impl Report {
     fn tell(&mut self, call: &str, number: u64, t: Told) {
         let Counts { merged, stored, dropped, compared } = t.counts;
         let Told { place, length, count, digest, .. } = t;
@@ -63,13 +63,13 @@ impl Page {
     }
 }
 
-fn channels(page: &mut Page) -> Result<TableauSum, Error> {
+fn channels(report: &mut Report) -> Result<TableauSum, Error> {
     let rates = std::array::from_fn(|i| (i + 1) as f64 / 256.0);
     let mut sum = TableauSum::fresh(SIZE, 0.5, 0.0)?;
-    page.changed("fresh", &sum, Counts::default());
+    report.changed("fresh", &sum, Counts::default());
     let mut make = |call: &str, counts: &dyn Fn(&mut TableauSum) -> Result<Counts, Error>| {
         let counts = counts(&mut sum).unwrap();
-        page.changed(call, &sum, counts);
+        report.changed(call, &sum, counts);
     };
     let none = |()| Counts::default();
     make("pauli_error", &|s| s.pauli_error(0, [0.25, 0.125, 0.0625]));
@@ -84,15 +84,17 @@ fn channels(page: &mut Page) -> Result<TableauSum, Error> {
     Ok(sum)
 }
 
-fn looks(page: &mut Page, sum: &TableauSum) -> Result<(), Error> {
+fn looks(report: &mut Report, sum: &TableauSum) -> Result<(), Error> {
     let table = sum.table()?;
     let words = table.iter().flat_map(|&(place, total)| [place as u64, total.to_bits()]);
-    page.looked("table", sum, 0, 2 * table.len(), digest(words));
-    page.looked("pick", sum, sum.pick(0.75)?, 0, 0);
+    report.looked("table", sum, 0, 2 * table.len(), digest(words));
+    report.looked("pick", sum, sum.pick(0.75)?, 0, 0);
     let view = sum.view(3)?;
-    page.looked("view", sum, 0, view.words().len(), digest(view.words().iter().copied()));
-    writeln!(page.lines, "view_word {:016x} {:016x}", sum.view_word(3, 3), sum.view_word(3, view.words().len())).unwrap();
+    report.looked("view", sum, 0, view.words().len(), digest(view.words().iter().copied()));
+    writeln!(report.lines, "view_word {:016x} {:016x}", sum.view_word(3, 3), sum.view_word(3, view.words().len())).unwrap();
     assert_eq!(view.phase_loss_key(), sum.view_word(3, 3));
+    let text = sum.page()?;
+    report.looked("write_page", sum, 0, text.len(), digest(text.bytes().map(u64::from)));
     Ok(())
 }
 
@@ -101,56 +103,57 @@ fn put_field(text: &mut [u8], at: usize, x: f64) {
     text[at..at + 21].copy_from_slice(format!("{:21}", x.to_bits()).as_bytes());
 }
 
-fn sheet(page: &mut Page, sum: &TableauSum) -> Result<(TableauSum, Vec<u8>), Error> {
+fn sheet(report: &mut Report, sum: &TableauSum) -> Result<(TableauSum, Vec<u8>), Error> {
     let mut text = sum.sheet()?.into_bytes();
-    page.looked("write_sheet", sum, 0, text.len(), digest(text.iter().map(|&b| b.into())));
+    report.looked("write_sheet", sum, 0, text.len(), digest(text.iter().map(|&b| b.into())));
     put_field(&mut text, 105, 1.0 / 32.0);
     put_field(&mut text, 127, 2.0);
     let mut sum = TableauSum::read_sheet(&text)?;
-    page.changed("read_sheet", &sum, Counts::default());
+    report.changed("read_sheet", &sum, Counts::default());
     sum.normalise()?;
-    page.changed("normalise", &sum, Counts::default());
+    report.changed("normalise", &sum, Counts::default());
     sum.truncate()?;
-    page.changed("truncate", &sum, Counts::default());
+    report.changed("truncate", &sum, Counts::default());
     Ok((sum, text))
 }
 
-fn refusals(page: &mut Page, sum: &mut TableauSum, mut text: Vec<u8>) {
-    page.refused_to_begin("fresh", sum, TableauSum::fresh(Size { n: MAX_QUBITS + 1, ..SIZE }, 0.5, 0.0));
-    page.refused_to_begin("fresh", sum, TableauSum::fresh(SIZE, 0.5, f64::NAN));
+fn refusals(report: &mut Report, sum: &mut TableauSum, mut text: Vec<u8>) {
+    report.refused_to_begin("fresh", sum, TableauSum::fresh(Size { n: MAX_QUBITS + 1, ..SIZE }, 0.5, 0.0));
+    report.refused_to_begin("fresh", sum, TableauSum::fresh(SIZE, 0.5, f64::NAN));
     let outcome = sum.h(SIZE.n);
-    page.refused("h", sum, outcome);
+    report.refused("h", sum, outcome);
     let outcome = sum.cnot(1, 1);
-    page.refused("cnot", sum, outcome);
-    page.refused("view", sum, sum.view(sum.len()));
+    report.refused("cnot", sum, outcome);
+    report.refused("view", sum, sum.view(sum.len()));
     let outcome = sum.pauli_error(0, [0.5; 3]);
-    page.refused("pauli_error", sum, outcome);
+    report.refused("pauli_error", sum, outcome);
     put_field(&mut text, 127, 1025.0);
-    page.refused_to_begin("read_sheet", sum, TableauSum::read_sheet(&text));
-    page.refused_to_begin("read_sheet", sum, TableauSum::read_sheet(&text[..text.len() - 1]));
-    page.refused("write_sheet", sum, sum.write_sheet(&mut text[..126]));
-    page.refused("pick", sum, sum.pick(1.0));
+    report.refused_to_begin("read_sheet", sum, TableauSum::read_sheet(&text));
+    report.refused_to_begin("read_sheet", sum, TableauSum::read_sheet(&text[..text.len() - 1]));
+    report.refused("write_sheet", sum, sum.write_sheet(&mut text[..126]));
+    report.refused("write_page", sum, sum.write_page(&mut text[..35 * sum.len() - 1]));
+    report.refused("pick", sum, sum.pick(1.0));
 }
 
-fn last_refusals(page: &mut Page) -> Result<(), Error> {
+fn last_refusals(report: &mut Report) -> Result<(), Error> {
     let mut full = TableauSum::fresh(Size { capacity: 1, ..SIZE }, 0.5, 0.0)?;
-    page.changed("fresh", &full, Counts::default());
+    report.changed("fresh", &full, Counts::default());
     let outcome = full.loss_channel(0, 1.0);
-    page.refused("loss_channel", &full, outcome);
+    report.refused("loss_channel", &full, outcome);
     let empty = TableauSum::fresh(SIZE, 0.5, 1.0)?;
-    page.changed("fresh", &empty, Counts::default());
-    page.refused("table", &empty, empty.table());
-    page.refused("pick", &empty, empty.pick(0.0));
+    report.changed("fresh", &empty, Counts::default());
+    report.refused("table", &empty, empty.table());
+    report.refused("pick", &empty, empty.pick(0.0));
     Ok(())
 }
 
 #[test]
 fn gives_what_c_is_given() {
-    let mut page = Page { lines: String::new() };
-    let sum = channels(&mut page).unwrap();
-    looks(&mut page, &sum).unwrap();
-    let (mut sum, text) = sheet(&mut page, &sum).unwrap();
-    refusals(&mut page, &mut sum, text);
-    last_refusals(&mut page).unwrap();
-    assert_eq!(page.lines, include_str!("../../../examples/c/every_call.stdout"));
+    let mut report = Report { lines: String::new() };
+    let sum = channels(&mut report).unwrap();
+    looks(&mut report, &sum).unwrap();
+    let (mut sum, text) = sheet(&mut report, &sum).unwrap();
+    refusals(&mut report, &mut sum, text);
+    last_refusals(&mut report).unwrap();
+    assert_eq!(report.lines, include_str!("../../../examples/c/every_call.stdout"));
 }

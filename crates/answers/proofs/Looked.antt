@@ -1,14 +1,19 @@
 -- What a call leaves that only looks: the header and the words as they were. Assumes nothing.
-use mathlib.Core.Path.{_≡_, refl, sym, ap, _∙_}
-use mathlib.Core.List.{List, []}
-use Prim.Native.Nat.{ℕ}
-use lib.ListN.{length}
+use mathlib.Core.Path.{_≡_, refl, sym, ap, ap₂, _∙_}
+use mathlib.Core.List.{List, [], _∷_, _++_}
+use Prim.Native.Nat.{ℕ, _-_, _<_, _≤_}
+use native.Mathlib.Omega.{arith}
+use lib.Dec.{ltb}
+use lib.ListN.{length, drop}
+use borrow.Author.Tests.{lt-ltb, le-ltb}
 use Rattle.model.specs.Entries.{Keyed}
 use Rattle.model.specs.Store.{Holding, testedAll, howMany}
 use Rattle.model.specs.Sum.{done, refused}
-use Rattle.model.specs.Calls.{Call, Lent, Left, looking, Form, kindOf, engine, sumOf, shows, answerOf, noCounts, plainAnswer, accepted, rebuilt, dirtyAfter, wordsAfter, splitAs, splitBy, testedBy, act, left, acted, refusedLeft, overlaid}
+use Rattle.model.specs.Numbers.{gives, firstOf}
+use Rattle.model.specs.Calls.{Call, Lent, Left, looking, Form, asBytes, kindOf, engine, sumOf, shows, answerOf, noCounts, plainAnswer, accepted, rebuilt, dirtyAfter, wordsAfter, splitAs, splitBy, testedBy, unless, act, left, acted, refusedLeft, overlaid}
 use Rattle.model.specs.declared.Answer.{Answer}
 use Rattle.model.proofs.Entries.{length-listed}
+use Rattle.model.proofs.Steps.{unless-first, unless-none}
 
 -- with this answer, and this output
 abbrev pub lookedLeft : Lent → ℕ → List ℕ → Left
@@ -39,6 +44,19 @@ module _ (c : Call) (x : Lent) (f : Form) (k : kindOf c ≡ looking f) where
   looked place output a =
       at-work ∙ ap (left c x (sumOf x)) a ∙ rw (k, compares-none, length-listed (x .header .size) (x .header .count) (x .words))
 
+-- a call that writes text: where number 8 is its only test, there is no room for the text, or all of it is written
+module _ (c : Call) (x : Lent) (room : ℕ) (text : List ℕ) (k : kindOf c ≡ looking asBytes)
+    (a : act engine c (sumOf x) ≡ unless (gives 8 (ltb room (length text)) ∷ []) (done (shows engine (sumOf x) 0 text))) where
+  pub text-short : room < length text → acted c x ≡ refusedLeft x 8
+  unfolding firstOf
+  text-short h = looked-refused c x asBytes k 8 (a ∙ unless-first (gives 8 (ltb room (length text)) ∷ []) (done (shows engine (sumOf x) 0 text)) 8 (rw (lt-ltb room (length text) h)) (λ z. omega arith))
+
+  pub text-written : length text ≤ room → acted c x ≡ lookedLeft x 0 text
+  unfolding firstOf
+  text-written h = looked c x asBytes k 0 text (a ∙ unless-none (gives 8 (ltb room (length text)) ∷ []) (done (shows engine (sumOf x) 0 text)) (rw (le-ltb room (length text) h)))
+
+-- ---- what a public call answers and leaves of its output slice
+
 -- it answers with a number and changes nothing
 pub refused-answer : {r : Answer} {l : Left} (x : Lent) (n : ℕ) → r ≡ plainAnswer (x .header) n → l ≡ refusedLeft x n → r ≡ l .answer
 refused-answer x n e p = e ∙ sym (ap (λ (l : Left). l .answer) p)
@@ -47,3 +65,12 @@ refused-answer x n e p = e ∙ sym (ap (λ (l : Left). l .answer) p)
 pub refused-out : {r : Answer} {l : Left} (x : Lent) (out : List ℕ) (n : ℕ) → r ≡ plainAnswer (x .header) n → l ≡ refusedLeft x n
     → (r ≡ l .answer) × (out ≡ overlaid (l .output) out)
 refused-out x out n e p = (refused-answer x n e p, sym (ap (λ (l : Left). overlaid (l .output) out) p))
+
+-- the text stands at the start of its output slice, of which `long` bytes were lent
+pub written-out : {r : Answer} {l : Left} {piece text : List ℕ} (x : Lent) (out : List ℕ) (long : ℕ) → r ≡ answerOf 0 (x .header) noCounts 0 long → piece ≡ text → long ≡ length text → l ≡ lookedLeft x 0 text
+    → (r ≡ l .answer) × (piece ++ drop (long - 0) out ≡ overlaid (l .output) out)
+written-out x out long e p q w =
+    let z : long - 0 ≡ long = omega arith in (
+      e ∙ ap (answerOf 0 (x .header) noCounts 0) q ∙ sym (ap (λ (l : Left). l .answer) w),
+      ap₂ (λ (t : List ℕ) (k : ℕ). t ++ drop k out) p (z ∙ q) ∙ sym (ap (λ (l : Left). overlaid (l .output) out) w),
+    )

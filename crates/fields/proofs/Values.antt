@@ -3,14 +3,14 @@ use mathlib.Core.Path.{_≡_, refl, sym, ap, ap₂, _∙_}
 use mathlib.Core.Bool.{Bool, true, false, true≢false, cond, _&&_, and-assoc}
 use mathlib.Core.List.{List, [], _∷_, _++_}
 use mathlib.Core.Option.{none, some}
-use Prim.Native.Nat.{ℕ, zero, suc, _+_, _*_, _-_, _/_, _%_, _^_, _<_, _≤_}
-use native.Mathlib.Nat.{pow-suc, div-lt-iff-lt-mul, div-add-mod}
+use Prim.Native.Nat.{ℕ, suc, _/_, _%_, _^_, _<_, _≤_}
 use native.Mathlib.Omega.{arith}
 use lib.Dec.{eqb, ltb}
 use lib.ListN.{length}
-use borrow.Author.Tests.{eq-eqb, ne-eqb, eqb-true, lt-ltb, le-ltb, ltb-true}
-use Rattle.model.specs.Sheet.{blank, digit, leading, field, sameWords, valueFrom, fieldValue}
+use borrow.Author.Tests.{eq-eqb, eqb-true, lt-ltb, le-ltb, ltb-true}
+use Rattle.model.specs.Sheet.{blank, digit, columns, leading, field, sameWords, valueFrom, fieldValue}
 use Rattle.model.proofs.Lists.{and-both, and-true, and-false}
+use Rattle.model.proofs.Sheet.{justified-read}
 use Rattle.fields.specs.Read.{column}
 
 -- ---- words compared
@@ -55,48 +55,10 @@ leading-last c v = go (eqb v 0) refl
 
 -- ---- the number that they stand for
 
--- columns read one after the other
-pub value-append : (v : ℕ) (a b : List ℕ) → valueFrom v (a ++ b) ≡ valueFrom (valueFrom v a) b
-unfolding valueFrom
-value-append v [] b = refl
-value-append v (x ∷ a) b = value-append (cond (eqb x blank) v (10 * v + (x - digit 0))) a b
-
-value-digit : (v d : ℕ) → valueFrom v (digit d ∷ []) ≡ 10 * v + d
-unfolding valueFrom
-value-digit v d = rw (ne-eqb (digit d) blank (λ e. omega arith)) (omega arith)
-
-whole : (v : ℕ) → 10 * (v / 10) + v % 10 ≡ v
-whole v = div-add-mod v 10
-
-value-column : (v : ℕ) → valueFrom (v / 10) (column v ∷ []) ≡ v
-unfolding column valueFrom
-value-column v = go (eqb v 0) refl
-  where
-    go : (t : Bool) → eqb v 0 ≡ t → valueFrom (v / 10) (cond t blank (digit (v % 10)) ∷ []) ≡ v
-    go true e =
-        let z : v ≡ 0 = eqb-true v 0 e in
-        rw z
-    go false e = value-digit (v / 10) (v % 10) ∙ whole v
-
-value-leading : (c v : ℕ) → v < 10 ^ c → valueFrom 0 (leading c v) ≡ v
-unfolding leading valueFrom
-value-leading zero v h = omega arith
-value-leading (suc c) v h =
-    let p : 10 ^ suc c ≡ 10 ^ c * 10 = pow-suc 10 c in
-    let l : v / 10 < 10 ^ c = div-lt-iff-lt-mul {k = 10} (omega arith) .1 (omega arith) in
-    ap (valueFrom 0) (leading-last c v)
-    ∙ value-append 0 (leading c (v / 10)) (column v ∷ [])
-    ∙ ap (λ (w : ℕ). valueFrom w (column v ∷ [])) (value-leading c (v / 10) l)
-    ∙ value-column v
-
--- 20 digits suffice for a number below 2^64
-pub value-field : (v : ℕ) → v < 2 ^ 64 → valueFrom 0 (field v) ≡ v
+-- 21 columns suffice for a number below 2^64
+value-field : (v : ℕ) → v < 2 ^ 64 → valueFrom 0 (field v) ≡ v
 unfolding field
-value-field v h =
-    value-append 0 (leading 20 (v / 10)) (digit (v % 10) ∷ [])
-    ∙ ap (λ (w : ℕ). valueFrom w (digit (v % 10) ∷ [])) (value-leading 20 (v / 10) (omega arith))
-    ∙ value-digit (v / 10) (v % 10)
-    ∙ whole v
+value-field v h = justified-read columns v (omega arith) (omega arith)
 
 -- ---- a field, read
 

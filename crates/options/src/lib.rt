@@ -8,6 +8,7 @@ ghost use Rattle.options.specs.Arguments.{countOf, noCount, boundOf, noB
 // What is printed.
 pub enum Output {
     Sheet,
+    Page,
     Table,
     Trace,
 }
@@ -504,6 +505,12 @@ fn choice_of(value: &[u8]) -> Choice {
             output: Output::Sheet,
         };
     }
+    if check::same(value, b"page") {
+        return Choice {
+            ok: true,
+            output: Output::Page,
+        };
+    }
     if check::same(value, b"table") {
         return Choice {
             ok: true,
@@ -534,7 +541,7 @@ pub fn output_option() -> Choice {
     let n = value_of(place, &mut value);
     let c = choice_of(&value[..n]);
     if !c.ok {
-        say_bad(b"--output", &value[..n], b"sheet, table or trace");
+        say_bad(b"--output", &value[..n], b"sheet, page, table or trace");
     }
     c
 }

@@ -6,7 +6,7 @@ use Prim.Native.Nat.{ℕ, _≤_}
 use native.Mathlib.Omega.{arith}
 use lib.Dec.{ltb}
 use borrow.Author.Tests.{ltb-false}
-use Rattle.model.specs.Calls.{Call, sheet, Lent, Left, step}
+use Rattle.model.specs.Calls.{Call, Lent, Left, step}
 use Rattle.model.specs.declared.Header.{Header}
 use Rattle.perform.specs.Encoding.{kindIn, firstIn, shownWords, roomIn, callBy, callOf}
 use Rattle.perform.specs.Records.{Made, Looked}
@@ -25,9 +25,9 @@ module _ (k : ℕ) (w : List ℕ) {c : Call} (e : kindIn w ≡ k) (q : (bytes : 
   pub looked-as : (x : Lent) {h : Header} {r r' : List ℕ} → Looked c x h r r' → (bytes : ℕ) → Looked (callOf bytes w) x h r r'
   looked-as x {h} {r} {r'} p bytes = subst (λ (d : Call). Looked d x h r r') (call-is bytes) p
 
-pub sheet-as : (bytes : ℕ) (w : List ℕ) {x y : Lent} {r r' t t' : List ℕ} → kindIn w ≡ 13 → Made (sheet bytes) x y r r' t t' → Made (callOf bytes w) x y r r' t t'
-unfolding callBy
-sheet-as bytes w {x} {y} {r} {r'} {t} {t'} e p = subst (λ (k : ℕ). Made (callBy bytes k w) x y r r' t t') (sym e) p
+-- .. of a call that writes text, too
+pub text-as : (k bytes : ℕ) (w : List ℕ) {x y : Lent} {r r' t t' : List ℕ} → kindIn w ≡ k → Made (callBy bytes k w) x y r r' t t' → Made (callOf bytes w) x y r r' t t'
+text-as k bytes w {x} {y} {r} {r'} {t} {t'} e p = subst (λ (j : ℕ). Made (callBy bytes j w) x y r r' t t') (sym e) p
 
 -- a table's room is in the record
 pub room-small : (w : List ℕ) → roomIn w ≤ shownWords

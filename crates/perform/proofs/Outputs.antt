@@ -12,9 +12,10 @@ use Rattle.model.specs.Entries.{Entry, Keyed}
 use Rattle.model.specs.Floats.{plus, above, float, zeroBits}
 use Rattle.model.specs.Numbers.{Test, gives, firstOf}
 use Rattle.model.specs.Sheet.{sheetText}
+use Rattle.model.specs.Page.{pageText}
 use Rattle.model.specs.Sum.{Result, done, refused, mapResult}
 use Rattle.model.specs.Table.{Placed, placedFrom, insert, falling, tableOrder, tableFrom, tableWords}
-use Rattle.model.specs.Calls.{Call, noise, reset, gate, truncate, normalise, table, pick, sheet, view, Sum, Outcome, changedTo, Lent, Left, Form, looking, kindOf, engine, bare, sheetOf, unless, tests, shape, zerosPast, act, performed, accepted, plainAnswer, wordsAfter, left, step, worked}
+use Rattle.model.specs.Calls.{Call, noise, reset, gate, truncate, normalise, table, pick, sheet, view, page, Sum, Outcome, changedTo, Lent, Left, Form, looking, kindOf, engine, bare, sheetOf, unless, tests, shape, zerosPast, act, performed, accepted, plainAnswer, wordsAfter, left, step, worked}
 use Rattle.view.proofs.Answers.{Viewed, refused as view-refused, shown as view-shown, viewed, stretch-long}
 use Rattle.perform.specs.Encoding.{shownWords}
 
@@ -91,6 +92,7 @@ roomFor (table room) = room
 roomFor (pick draw) = 0
 roomFor (sheet room) = room
 roomFor (view place) = shownWords
+roomFor (page room) = room
 
 view-fits : (x : Lent) (place : ℕ) → Viewed x place → length (step (view place) x .output) ≤ shownWords
 view-fits x place (view-refused n z e) = omega (arith, ap (λ (l : Left). length (l .output)) e)
@@ -118,6 +120,7 @@ module _ (x : Lent) where
   output-fits (pick draw) = stepped (pick draw) 0 (λ m. unless-fits _ _ 0 (omega arith))
   output-fits (sheet room) = stepped (sheet room) room (λ m. roomy room (length (sheetText (sheetOf engine m))) _ _ refl)
   output-fits (view place) = view-fits x place (viewed x place)
+  output-fits (page room) = stepped (page room) room (λ m. roomy room (length (pageText (bare engine m))) _ _ refl)
 
 -- ---- its length is told, and a call that looks leaves the words
 

@@ -5,7 +5,7 @@ use Prim.Native.Nat.{ℕ, _≤_}
 use lib.Ieee.{Float}
 use lib.ListN.{length, drop-of-length-le}
 use borrow.Rule.Slice.PartMut.{putMid, midOf}
-use Rattle.model.specs.Calls.{Call, table, pick, sheet, view, Form, asWords, asBytes, asEntry, formOf, Lent, held, Left, gave, looking, kindOf, step, overlaid}
+use Rattle.model.specs.Calls.{Call, table, pick, view, Form, asWords, asBytes, asEntry, formOf, Kind, Lent, held, Left, gave, looking, kindOf, step, overlaid}
 use Rattle.model.specs.declared.Answer.{Answer}
 use Rattle.model.specs.declared.Header.{Header}
 use Rattle.model.specs.Demand3.{next}
@@ -35,16 +35,21 @@ made-change c x a w r t e p =
       text-is = ap (λ (o : List ℕ). overlaid o t) (sym (text-none (formOf (kindOf c)))) ∙ ap (λ (l : Left). overlaid (textOf c l) t) e;
     }
 
--- ---- a sheet: all of it is text
+-- ---- a sheet or a page: all of it is text
 
 header-left : (c : Call) (f : Form) (x : Lent) (a : Answer) → kindOf c ≡ looking f → a ≡ step c x .answer → held (a .header) (x .words) ≡ next (step c x)
 header-left c f x a k e = ap₂ (λ (b : Answer) (w : List ℕ). held (b .header) w) e (sym (words-kept c f x k))
 
-pub made-sheet : (room : ℕ) (x : Lent) (a : Answer) (r t : List ℕ) {r' t' : List ℕ} → a ≡ step (sheet room) x .answer → t' ≡ overlaid (step (sheet room) x .output) t → r' ≡ overlaid (numbers a) r
-    → Made (sheet room) x (held (a .header) (x .words)) r r' t t'
-unfolding inRecord inText formOf kindOf
-made-sheet room x a r t e o p =
-    record { next-is = header-left (sheet room) asBytes x a refl e; record-is = p ∙ ap (λ (b : Answer). overlaid (numbers b) r) e; text-is = o }
+pub made-text : (c : Call) (x : Lent) (a : Answer) (r t : List ℕ) {r' t' : List ℕ} → kindOf c ≡ looking asBytes → a ≡ step c x .answer → t' ≡ overlaid (step c x .output) t → r' ≡ overlaid (numbers a) r
+    → Made c x (held (a .header) (x .words)) r r' t t'
+unfolding inRecord inText formOf
+made-text c x a r t k e o p =
+    let s = step c x in
+    record {
+      next-is = header-left c asBytes x a k e;
+      record-is = p ∙ ap₂ (λ (b : Answer) (f : Kind). overlaid (numbers b ++ inRecord (formOf f) (s .output)) r) e (sym k);
+      text-is = o ∙ ap (λ (f : Kind). overlaid (inText (formOf f) (s .output)) t) (sym k);
+    }
 
 -- ---- a table or a view: lent a part of the record, behind the numbers
 

@@ -7,7 +7,7 @@ use lib.Ieee.{Float}
 use lib.ListN.{getD, drop}
 use Rattle.model.specs.Floats.{float}
 use Rattle.model.specs.Channels.{one, two, depolarize2}
-use Rattle.model.specs.Calls.{Call, noise, reset, gate, truncate, normalise, table, pick, sheet, view}
+use Rattle.model.specs.Calls.{Call, noise, reset, gate, truncate, normalise, table, pick, sheet, view, page}
 use Rattle.model.specs.declared.Channel.the-variants.{Pauli, Loss, Depolarizing}
 use Rattle.model.specs.declared.Gate.the-variants.{H, S, Cnot}
 
@@ -40,9 +40,9 @@ unfoldable pub roomIn : List ℕ → ℕ
 roomIn w = cond (ltb shownWords (firstIn w)) shownWords (firstIn w)
 
 unfoldable pub known : List ℕ → Bool
-known w = ltb (kindIn w) 15
+known w = ltb (kindIn w) 16
 
--- the call of a kind; a sheet has room for `bytes` bytes
+-- the call of a kind; a sheet or a page has room for `bytes` bytes
 unfoldable pub callBy : ℕ → ℕ → List ℕ → Call
 callBy bytes kind w =
     cond (eqb kind 0) (noise (one (Pauli (rateIn w 0) (rateIn w 1) (rateIn w 2)) (firstIn w)))
@@ -59,7 +59,8 @@ callBy bytes kind w =
     (cond (eqb kind 11) (table (roomIn w))
     (cond (eqb kind 12) (pick (rateIn w 0))
     (cond (eqb kind 13) (sheet bytes)
-    (view (firstIn w)))))))))))))))
+    (cond (eqb kind 14) (view (firstIn w))
+    (page bytes)))))))))))))))
 
 abbrev pub callOf : ℕ → List ℕ → Call
 callOf bytes w = callBy bytes (kindIn w) w

@@ -1,4 +1,4 @@
--- What a call leaves besides header and store: a record of its numbers and of what it shows, and a stretch of text for a sheet. Assumes nothing.
+-- What a call leaves besides header and store: a record of its numbers and of what it shows, and a stretch of text for a sheet or a page. Assumes nothing.
 use Prim.Native.Nat.{ℕ, _+_}
 use mathlib.Core.Path.{_≡_}
 use mathlib.Core.List.{List, [], _∷_, _++_}

@@ -3,8 +3,9 @@
 //    3 two-qubit Pauli at p and q, 15 rates   4 depolarize2 at p and q   5 reset at q
 //    6 H at q   7 S at q   8 CNOT p to q   9 truncate   10 normalise
 //   11 table, its room in word 1   12 pick, its draw in word 3   13 sheet   14 view, its place in word 1
+//   15 page
 // What it gives goes to a record: number, merged, stored, dropped, compared, place and length, and behind these a table's words or a
-// view's. A sheet goes to a text. specs/Encoding.antt says which words are which call, specs/Records.antt what is left.
+// view's. A sheet or a page goes to a text. specs/Encoding.antt says which words are which call, specs/Records.antt what is left.
 use model::Answer;
 use model::Channel;
 use model::Gate;
@@ -37,7 +38,7 @@ pub fn known(call: &[u64]) -> bool
     requires { ⌜ length (now call) ≡ callWords ⌝ }
     ensures { λ r. ⌜ r ≡ Encoding.known (now (call .entry)) ⌝ }
 {
-    call[0] < 15
+    call[0] < 16
 }
 
 // A whole number of a call.
@@ -235,7 +236,7 @@ fn look(h: Header, store: &[u64], call: &[u64], out: &mut [u64]) -> Header
 
 // ---- one call
 
-// Any call, on header and store; its record in `out`, and its text, if it is a sheet, in `text`.
+// Any call, on header and store; its record in `out`, and its text, if it is a sheet or a page, in `text`.
 pub fn perform(
     h: Header,
     store: &mut [u64],
@@ -259,6 +260,11 @@ pub fn perform(
     }
     if kind == 13 {
         let a = sheet::write_sheet(h, store, text);
+        put_numbers(out, a);
+        return a.header;
+    }
+    if kind == 15 {
+        let a = page::write_page(h, store, text);
         put_numbers(out, a);
         return a.header;
     }

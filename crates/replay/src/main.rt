@@ -48,10 +48,10 @@ fn tell_start(kind: u64, number: u64) {
     test_support::number(number);
 }
 
-// The words that the call wrote or shows, at most twenty. A sheet's are in the text.
+// The words that the call wrote or shows, at most twenty. What a sheet (13) or a page (15) wrote is in the text.
 fn tell_shown(kind: u64, record: &[u64]) {
     let length = test_support::word_at(record, 6);
-    if kind == 13 {
+    if kind == 13 || kind == 15 {
         return;
     }
     if length == 0 {

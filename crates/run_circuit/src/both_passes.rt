@@ -76,6 +76,7 @@ fn is_trace(output: Output) -> bool {
 fn print(output: Output, h: Header, store: &[u64]) -> bool {
     match output {
         Output::Sheet => outputs::write_sheet(h, store),
+        Output::Page => outputs::write_page(h, store),
         Output::Table => outputs::write_table(h, store),
         Output::Trace => true,
     }

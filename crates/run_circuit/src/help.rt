@@ -14,8 +14,8 @@ FILE missing or `-`: standard input.\n\
 --cutoff C      branches and entries of no more weight than this are dropped; without it, 0\n  \
 --capacity N    how many entries there may be, 1 to 256; without it, 256\n  \
 --max-lost X    it is an error if more than this fraction of the initial weight is lost\n  \
---output WHAT   sheet (the weight sheet; also without this option), table (the sampling table)\n                  \
-or trace (a line for each call)\n  \
+--output WHAT   sheet (the weight sheet; also without this option), page (the weight page: a line\n                  \
+for each entry), table (the sampling table) or trace (a line for each call)\n  \
 --tmpdir DIR    where the circuit is copied to before it is run; without it, /tmp\n                  \
 (./run_circuit takes TMPDIR)\n  \
 --report FD     how it ended is written to this descriptor: 0, 1 or 2, as the status below\n  \
@@ -31,7 +31,7 @@ REPEAT n { .. }\n\
 \n\
 The status of ./run_circuit: 0 if all that was asked for was written; 1 for a bad circuit, a\n\
 refused call, or something that could not be read or written; 2 for wrong usage. What went wrong\n\
-is said on standard error, and then no sheet and no table is printed; a trace ends with the call\n\
+is said on standard error, and then no sheet, page or table is printed; a trace ends with the call\n\
 that was refused. (The program itself has no status: --report tells it.)\n",
     )
 }

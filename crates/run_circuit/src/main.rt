@@ -1,4 +1,4 @@
-// Runs a circuit, in a subset of Stim's circuit language, and prints the weight sheet, the sampling table or a trace.
+// Runs a circuit, in a subset of Stim's circuit language, and prints the weight sheet, the weight page, the sampling table or a trace.
 mod both_passes;
 mod descriptors;
 mod help;

@@ -1,6 +1,7 @@
-// What is printed at the end of a run: the sheet or the table, and the summary.
+// What is printed at the end of a run: the sheet, the page or the table, and the summary.
 use libc::STDERR_FILENO;
 use libc::STDOUT_FILENO;
+use model::Answer;
 use model::Header;
 use second_pass::Run;
 
@@ -22,6 +23,19 @@ pub fn is_written(written: bool) -> bool {
     written
 }
 
+// The text that a call gave this answer for, printed. Whether it was written; a refused call is told.
+fn write_text(what: &[u8], a: Answer, text: &[u8]) -> bool {
+    let end = a.length;
+    if a.number != 0 {
+        tell_refused(what, a.number);
+        return false;
+    }
+    if end <= text.len() {
+        return is_written(io::write_all(STDOUT_FILENO, &text[0..end]));
+    }
+    false
+}
+
 // ---- the sheet
 
 // Room for the largest: a line of 6 fields, and for each of 256 entries lines of 3 fields for itself, its coefficient and 128 rows. A field
@@ -34,15 +48,16 @@ fn sheet_room() -> [u8; 2_130_047] {
 pub fn write_sheet(h: Header, store: &[u64]) -> bool {
     let mut out = sheet_room();
     let a = sheet::write_sheet(h, store, &mut out);
-    if a.number != 0 {
-        tell_refused(b"the sheet", a.number);
-        return false;
-    }
-    let end = a.length;
-    if end <= 2_130_047 {
-        return is_written(io::write_all(STDOUT_FILENO, &out[0..end]));
-    }
-    false
+    write_text(b"the sheet", a, &out)
+}
+
+// ---- the page
+
+// Whether it was written. There is room for the largest: 256 lines of 35 bytes.
+pub fn write_page(h: Header, store: &[u64]) -> bool {
+    let mut out = [0u8; 8960];
+    let a = page::write_page(h, store, &mut out);
+    write_text(b"the page", a, &out)
 }
 
 // ---- the table

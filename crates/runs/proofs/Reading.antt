@@ -8,7 +8,7 @@ use native.Mathlib.Omega.{arith}
 use lib.Dec.{eqb}
 use lib.ListN.{length, take, drop, getD, length-append, length-drop}
 use lib.Seq.{take-at, drop-at, length-take-le}
-use Rattle.model.specs.Calls.{Call, noise, reset, gate, truncate, normalise, table, pick, sheet, view, Form, asWords, asBytes, asEntry, formOf, kindOf, Lent, Left, step, overlaid}
+use Rattle.model.specs.Calls.{Call, noise, reset, gate, truncate, normalise, table, pick, sheet, view, page, Form, asWords, asBytes, asEntry, formOf, kindOf, Lent, Left, step, overlaid}
 use Rattle.perform.specs.Encoding.{shownWords, kindIn, callBy, callOf}
 use Rattle.perform.specs.Records.{recordWords, numbers, inRecord, inText, recordOf, textOf}
 use Rattle.perform.proofs.Encoded.{room-small}
@@ -60,9 +60,13 @@ module _ (bytes : ℕ) where
         in-text = λ x. omega (arith, ap length (t (step c x .output)));
       }
 
-  sheet-roomy : Roomy bytes (sheet bytes)
-  unfolding inRecord inText formOf kindOf roomFor
-  sheet-roomy = record { in-record = λ x. omega arith; in-text = λ x. output-fits x (sheet bytes) }
+  -- one that shows bytes
+  text-roomy : (c : Call) → roomFor c ≤ bytes → ((o : List ℕ) → inRecord (formOf (kindOf c)) o ≡ []) → ((o : List ℕ) → inText (formOf (kindOf c)) o ≡ o) → Roomy bytes c
+  text-roomy c h r t =
+      record {
+        in-record = λ x. omega (arith, length-append (numbers (step c x .answer)) (inRecord (formOf (kindOf c)) (step c x .output)), ap length (r (step c x .output)));
+        in-text = λ x. omega (arith, ap length (t (step c x .output)), output-fits x c, h);
+      }
 
   either : (b : Bool) {c d : Call} → Roomy bytes c → Roomy bytes d → Roomy bytes (cond b c d)
   either true p q = p
@@ -74,6 +78,7 @@ module _ (bytes : ℕ) where
       let k = kindIn w in
       let none : 0 ≤ shownWords = omega arith in
       let all : shownWords ≤ shownWords = omega arith in
+      let room : bytes ≤ bytes = omega arith in
       either (eqb k 0) (words-roomy (noise _) none (λ o. refl) (λ o. refl))
       (either (eqb k 1) (words-roomy (noise _) none (λ o. refl) (λ o. refl))
       (either (eqb k 2) (words-roomy (noise _) none (λ o. refl) (λ o. refl))
@@ -87,8 +92,9 @@ module _ (bytes : ℕ) where
       (either (eqb k 10) (words-roomy normalise none (λ o. refl) (λ o. refl))
       (either (eqb k 11) (words-roomy (table _) (room-small w) (λ o. refl) (λ o. refl))
       (either (eqb k 12) (words-roomy (pick _) none (λ o. refl) (λ o. refl))
-      (either (eqb k 13) sheet-roomy
-      (words-roomy (view _) all (λ o. refl) (λ o. refl)))))))))))))))
+      (either (eqb k 13) (text-roomy (sheet bytes) room (λ o. refl) (λ o. refl))
+      (either (eqb k 14) (words-roomy (view _) all (λ o. refl) (λ o. refl))
+      (text-roomy (page bytes) room (λ o. refl) (λ o. refl))))))))))))))))
 
   -- ---- all calls
 

@@ -59,7 +59,8 @@ pub record Agreed (bytes : ℕ) (cs : List Call) (m : Sum Entry) (dirty : Bool) 
   -- the flag exactly as document 01 says; without it each stored key is the one worked out from its entry
   pub flag : o .lent .header .dirty ≡ flagAfter cs m dirty
   pub keys : o .lent .header .dirty ≡ false → sumOf (o .lent) .entries ≡ rebuiltEntries (o .lent .header .size .n) (sumOf (o .lent) .entries)
-  -- in the records and the text: the same numbers, counts, places, table words, sheet bytes and views without keys; and the comparisons
+  -- in the records and the text: the same numbers, counts, places, table words, bytes of sheets and pages, and views without keys;
+  -- and the comparisons
   pub shown : readShown bytes cs (o .log) (o .text) ≡ allKeylessShown cs m
   pub compared : readCompared cs (o .log) ≡ allComparisons cs m
 

@@ -19,7 +19,7 @@ countIn calls = length calls / callWords
 abbrev pub groupsIn : List ℕ → List (List ℕ)
 groupsIn calls = groups callWords (countIn calls) calls
 
--- each sheet has room for `bytes` bytes
+-- each sheet and each page has room for `bytes` bytes
 abbrev pub callsIn : ℕ → List ℕ → List Call
 callsIn bytes calls = map (callOf bytes) (groupsIn calls)
 

@@ -1,4 +1,4 @@
-// The calls of document 01 for programs in C and Rust: what `rt staticlib tableau_sum` puts into libtableau_sum.a. Each makes one call of
+// The calls of documents 01 and 02 for programs in C and Rust: what `rt staticlib tableau_sum` puts into libtableau_sum.a. Each makes one call of
 // another crate and promises what that promises. A slice is passed as a pointer and a length, the structs as C lays them out; a call
 // takes its header and store first, then qubits, then rates. After each call, the numbers it can give besides 0.
 use model::Answer;
@@ -185,6 +185,15 @@ pub extern "C" fn tableau_sum_write_sheet(h: Header, store: &[u64], out: &mut [u
     ensures output { λ _. ⌜ now (out .exit) ≡ overlaid (step (Calls.sheet (length (now (out .entry)))) (held h (now (store .entry))) .output) (now (out .entry)) ⌝ }
 {
     sheet::write_sheet(h, store, out)
+}
+
+// The sum's weight page at the start of `out`. The length counts bytes. 1, 2, 5, 8.
+#[no_mangle]
+pub extern "C" fn tableau_sum_write_page(h: Header, store: &[u64], out: &mut [u8]) -> Answer
+    ensures answer { λ r. ⌜ r ≡ step (Calls.page (length (now (out .entry)))) (held h (now (store .entry))) .answer ⌝ }
+    ensures output { λ _. ⌜ now (out .exit) ≡ overlaid (step (Calls.page (length (now (out .entry)))) (held h (now (store .entry))) .output) (now (out .entry)) ⌝ }
+{
+    page::write_page(h, store, out)
 }
 
 // A view of the entry at a place: the length is that of its stretch, which begins at place × length in the store. 1, 2, 3, 5.

@@ -17,10 +17,11 @@ use Rattle.model.specs.Channels.{Noise, qubits, noiseSplit, noiseTally, 
 use Rattle.model.specs.Reset.{resetSplit, resetTally}
 use Rattle.model.specs.Gates.{turned}
 use Rattle.model.specs.Sheet.{Sheet, sheetText}
+use Rattle.model.specs.Page.{pageText}
 use Rattle.model.specs.Table.{tableWords, pickPlace}
 use Rattle.model.specs.Numbers.{Test, gives, firstOf, someNotBelow, drawSound}
 use Rattle.model.specs.Keyless.{bareWeighed, keyless, clashesAll, clashesBy}
-use Rattle.model.specs.Calls.{Call, noise, reset, gate, truncate, normalise, table, pick, sheet, view, Sum, Outcome, tests, argumentTests, unless, changedTo, act, engine, kindOf, rebuiltEntries, rebuilt, wordsAfter, splitBy, testedBy}
+use Rattle.model.specs.Calls.{Call, noise, reset, gate, truncate, normalise, table, pick, sheet, view, page, Sum, Outcome, tests, argumentTests, unless, changedTo, act, engine, kindOf, rebuiltEntries, rebuilt, wordsAfter, splitBy, testedBy}
 use Rattle.model.specs.declared.Gate.{Gate}
 use Rattle.model.specs.Demand3.{withoutKeys, flagLeft}
 use Rattle.model.proofs.Demand3.Lists.{map-same, map-twice, tallyMap, empty-map, one-map}
@@ -251,7 +252,7 @@ module _ (m : Sum Entry) where
     unfolding act withoutKeys wordsAfter kindOf rebuilt flagLeft testedBy splitBy testedAll howMany clashesBy clashesAll
     normalise-acts = listed-acts normalise refl refl refl (λ l. refl) normalised-same
 
-    -- ---- tables, picks, sheets and views only look
+    -- ---- tables, picks, sheets, views and pages only look
 
     -- what is seen: place and output
     looks : (c : Call) → flagLeft c dirty ≡ dirty
@@ -315,6 +316,12 @@ module _ (m : Sum Entry) where
         (shown-same (drop place es)
         ∙ ap (λ (l : List Entry). joined (map bareWords l)) (sym (one-map strip place es) ∙ ap (λ (l : List Entry). take 1 (drop place l)) (g .content)))
 
+    page-acts : (room : ℕ) → Same (page room) m dirty es (act engine (page room) (worked (page room) m dirty es)) (act keyless (page room) m)
+    unfolding act withoutKeys wordsAfter kindOf rebuilt flagLeft testedBy splitBy testedAll howMany clashesBy clashesAll
+    page-acts room =
+        rw bare-same
+        (same-unless (gives 8 (ltb room (length (pageText _))) ∷ []) (λ _. looks (page room) refl refl refl 0 0 _ _ refl refl))
+
     -- ---- any call
 
     pub acts-same : (c : Call) (zeros : Bool) (l : List Entry) → firstOf (tests c (m .size) zeros l) ≡ 0 → Same c m dirty es (act engine c (worked c m dirty es)) (act keyless c m)
@@ -328,3 +335,4 @@ module _ (m : Sum Entry) where
     acts-same (pick draw) zeros l h = pick-acts draw
     acts-same (sheet room) zeros l h = sheet-acts room
     acts-same (view place) zeros l h = view-acts place
+    acts-same (page room) zeros l h = page-acts room

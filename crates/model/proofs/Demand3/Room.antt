@@ -22,7 +22,7 @@ use Rattle.model.specs.Reset.{leavingAt, leftAt, drained, resetSplit, re
 use Rattle.model.specs.Gates.{turnedBody, turned}
 use Rattle.model.specs.Numbers.{Test, gives, firstOf}
 use Rattle.model.specs.Keyless.{bareWeighed, firstAlike, keyless}
-use Rattle.model.specs.Calls.{Call, noise, reset, gate, truncate, normalise, table, pick, sheet, view, Sum, changedTo, unless, act}
+use Rattle.model.specs.Calls.{Call, noise, reset, gate, truncate, normalise, table, pick, sheet, view, page, Sum, changedTo, unless, act}
 use Rattle.model.specs.declared.BranchMutation.{BranchMutation}
 use Rattle.model.specs.declared.BranchMutation.the-variants.{Pauli as pauli, Pair as pair, Loss as loss}
 use Rattle.model.specs.declared.Found.{Found}
@@ -267,3 +267,4 @@ act-held (table room) m h = yields-unless _ _ (given h)
 act-held (pick draw) m h = yields-unless _ _ (given h)
 act-held (sheet room) m h = yields-unless _ _ (given h)
 act-held (view place) m h = given h
+act-held (page room) m h = yields-unless _ _ (given h)

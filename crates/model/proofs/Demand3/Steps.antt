@@ -8,7 +8,7 @@ use Rattle.model.specs.Entries.{Entry, Keyed}
 use Rattle.model.specs.Sum.{Result, done, refused}
 use Rattle.model.specs.Numbers.{Test}
 use Rattle.model.specs.Keyless.{keyless, keylessStep}
-use Rattle.model.specs.Calls.{Call, noise, reset, gate, truncate, normalise, table, pick, sheet, view, Form, asWords, asBytes, asEntry, formOf, Sum, Outcome, tests, unless, bare, act, performed, held, engine, kindOf, dirtyAfter, Left, plainAnswer, headerWith, accepted, left, shape, zerosPast, step}
+use Rattle.model.specs.Calls.{Call, noise, reset, gate, truncate, normalise, table, pick, sheet, view, page, Form, asWords, asBytes, asEntry, formOf, Sum, Outcome, tests, unless, bare, act, performed, held, engine, kindOf, dirtyAfter, Left, plainAnswer, headerWith, accepted, left, shape, zerosPast, step}
 use Rattle.model.proofs.Steps.{unless-none, bare-rebuilt, size-rebuilt}
 use Rattle.model.specs.Demand3.{next, keylessNext, bareForm, withoutKeys, shownBy, keylessShown, comparisons, flagLeft, flagBy}
 use Rattle.model.proofs.Demand3.Lists.{map-same}
@@ -47,6 +47,7 @@ flag-is (table room) dirty = refl
 flag-is (pick draw) dirty = refl
 flag-is (sheet room) dirty = refl
 flag-is (view place) dirty = refl
+flag-is (page room) dirty = refl
 
 module _ (c : Call) (m : Sum Entry) (dirty : Bool) (es : List Keyed) (g : Good m dirty es) where
   abbrev sum : Sum Keyed

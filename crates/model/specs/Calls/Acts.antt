@@ -14,8 +14,9 @@ use Rattle.model.specs.Reset.{resetSplit, resetTally}
 use Rattle.model.specs.Table.{tableWords, pickPlace}
 use Rattle.model.specs.Gates.{turned}
 use Rattle.model.specs.Sheet.{Sheet, sheetText}
+use Rattle.model.specs.Page.{pageText}
 use Rattle.model.specs.Numbers.{gives, drawSound}
-use Rattle.model.specs.Calls.Judged.{Call, noise, reset, gate, truncate, normalise, table, pick, sheet, view, Merging, byNoise, byReset, Kind, branching, turning, moving, looking, kindOf, tests, unless}
+use Rattle.model.specs.Calls.Judged.{Call, noise, reset, gate, truncate, normalise, table, pick, sheet, view, page, Merging, byNoise, byReset, Kind, branching, turning, moving, looking, kindOf, tests, unless}
 use Rattle.model.specs.declared.Size.{Size}
 
 -- size, threshold, cutoff and entries
@@ -69,6 +70,7 @@ module _ {X : Type 0} (K : Size → Float → Holding X) where
       unless (gives 8 (ltb room (length (sheetText (sheetOf m)))) ∷ [])
       (done (shows m 0 (sheetText (sheetOf m))))
   act (view place) m = done (shows m 0 (joined (map (holding m .shown) (take 1 (drop place (m .entries))))))
+  act (page room) m = unless (gives 8 (ltb room (length (pageText (bare m)))) ∷ []) (done (shows m 0 (pageText (bare m))))
 
   -- the call on a sum: 3, 4, 5, and then the call itself
   unfoldable pub performed : Call → Bool → Sum X → Result (Outcome X)

@@ -23,6 +23,7 @@ pub data Call : Type 0 where
   pick : Float → Call
   sheet : ℕ → Call
   view : ℕ → Call
+  page : ℕ → Call
 
 -- ---- what depends on the kind of a call alone goes by these
 
@@ -69,6 +70,7 @@ judged (table room) = record { kind = looking asWords; arguments = λ s count. [
 judged (pick draw) = record { kind = looking asWords; arguments = λ s count. [] }
 judged (sheet room) = record { kind = looking asBytes; arguments = λ s count. [] }
 judged (view place) = record { kind = looking asEntry; arguments = λ s count. gives 3 (leb count place) ∷ [] }
+judged (page room) = record { kind = looking asBytes; arguments = λ s count. [] }
 
 unfoldable pub kindOf : Call → Kind
 unfolding judged

@@ -1,21 +1,22 @@
 -- `perform::perform` meets its contract. Assumes nothing.
+use mathlib.Core.Path.{refl}
 use mathlib.Core.List.{List}
 use Prim.Native.Nat.{ℕ, _<_}
 use native.Mathlib.Omega.{arith}
 use lib.ListN.{length}
 use denote.Ref.{now}
 use borrow.Author.Tests.{ltb-true}
-use Rattle.model.specs.Calls.{Lent, held}
-use Rattle.perform.specs.Encoding.{kindIn, known, callOf}
-use Rattle.perform.proofs.Encoded.{sheet-as}
-use Rattle.perform.proofs.Records.{made-change, made-sheet, made-look}
+use Rattle.model.specs.Calls.{Lent, held, sheet, page, kindOf}
+use Rattle.perform.specs.Encoding.{kindIn, known, callBy, callOf}
+use Rattle.perform.proofs.Encoded.{text-as}
+use Rattle.perform.proofs.Records.{made-change, made-text, made-look}
 use borrow.Author.Needs.{needs}
 use Rattle.perform.proofs.perform.Statement.{statement}
 use Rattle.perform.proofs.perform.Tie as tie
 
-below : (c : tie.Start) → kindIn (now (c .args .call)) < 15
+below : (c : tie.Start) → kindIn (now (c .args .call)) < 16
 unfolding known
-below c = ltb-true (kindIn (now (c .args .call))) 15 (c .pre .1)
+below c = ltb-true (kindIn (now (c .args .call))) 16 (c .pre .1)
 
 abbrev from : tie.After-shared-slice-known2 → tie.Start
 from c = c .before .before .before .before .before
@@ -84,18 +85,19 @@ same-length-7 : tie.Need-same-length-7
 same-length-7 c = search needs
 
 returns-3 : tie.Need-returns-3
+unfolding callBy kindOf
 returns-3 c =
     let a = c .before .before .before .before .before .before .before in
     let t = c .before .before .before .before .before .before .before .before .before .before in
     let s = t .before .before .before in
-    sheet-as (length (text s)) (words s) (t .if3 .taken)
-    (made-sheet (length (text s)) (given s) (a .write-sheet .result) (now (from s .args .out)) (text s) (a .write-sheet .ensures .0) (a .write-sheet .ensures .1) (c .before .before .before .put-numbers3 .ensures))
+    text-as 13 (length (text s)) (words s) (t .if3 .taken)
+    (made-text (sheet (length (text s))) (given s) (a .write-sheet .result) (now (from s .args .out)) (text s) refl (a .write-sheet .ensures .0) (a .write-sheet .ensures .1) (c .before .before .before .put-numbers3 .ensures))
 
-look-requires : tie.Need-look-requires
-look-requires c κs =
-    let t = c .before .before in
-    let s = t .before .before .before in
-    (from s .pre .0, omega (arith, t .before .if2 .left), below (from s), t .if3 .left, from s .pre .2)
+write-page-requires : tie.Need-write-page-requires
+write-page-requires c κs = search needs
+
+put-numbers-requires-4 : tie.Need-put-numbers-requires-4
+put-numbers-requires-4 c κs = search needs
 
 same-length-8 : tie.Need-same-length-8
 same-length-8 c = search needs
@@ -103,9 +105,33 @@ same-length-8 c = search needs
 same-length-9 : tie.Need-same-length-9
 same-length-9 c = search needs
 
+same-length-10 : tie.Need-same-length-10
+same-length-10 c = search needs
+
 returns-4 : tie.Need-returns-4
+unfolding callBy kindOf
 returns-4 c =
-    let s = c .before .before .before .before .before .before .before .before in
+    let a = c .before .before .before .before .before .before .before in
+    let t = c .before .before .before .before .before .before .before .before .before .before in
+    let s = t .before .before .before .before in
+    text-as 15 (length (text s)) (words s) (t .if4 .taken)
+    (made-text (page (length (text s))) (given s) (a .write-page .result) (now (from s .args .out)) (text s) refl (a .write-page .ensures .0) (a .write-page .ensures .1) (c .before .before .before .put-numbers4 .ensures))
+
+look-requires : tie.Need-look-requires
+look-requires c κs =
+    let t = c .before .before in
+    let s = t .before .before .before .before in
+    (from s .pre .0, omega (arith, t .before .before .if2 .left), omega (arith, below (from s), t .if4 .left), t .before .if3 .left, from s .pre .2)
+
+same-length-11 : tie.Need-same-length-11
+same-length-11 c = search needs
+
+same-length-12 : tie.Need-same-length-12
+same-length-12 c = search needs
+
+returns-5 : tie.Need-returns-5
+returns-5 c =
+    let s = c .before .before .before .before .before .before .before .before .before in
     made-look (text s) (c .before .before .look .ensures (length (text s)))
 
 pub perform-spec : {M : Type 1} → statement M
@@ -129,7 +155,13 @@ perform-spec =
     same-length-6
     same-length-7
     returns-3
-    look-requires
+    write-page-requires
+    put-numbers-requires-4
     same-length-8
     same-length-9
-    returns-4)
+    same-length-10
+    returns-4
+    look-requires
+    same-length-11
+    same-length-12
+    returns-5)

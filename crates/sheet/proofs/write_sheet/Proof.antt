@@ -1,16 +1,15 @@
 -- `sheet::write_sheet` meets its contract: one law for each of its answers. Assumes nothing.
-use mathlib.Core.Path.{_≡_, sym, ap, ap₂, _∙_}
-use mathlib.Core.List.{List, _++_}
-use Prim.Native.Nat.{ℕ, _-_}
+use mathlib.Core.Path.{_≡_, sym, _∙_}
+use Prim.Native.Nat.{ℕ}
 use native.Mathlib.Omega.{arith}
-use lib.ListN.{length, drop}
+use lib.ListN.{length}
 use borrow.Author.Needs.{needs}
 use borrow.Rule.Slice.PartMut.{mid-len}
-use Rattle.model.specs.Calls.{Lent, Left, held, overlaid, sheet, answerOf, noCounts, step, acted}
+use Rattle.model.specs.Calls.{Lent, held, sheet, step, acted}
 use Rattle.model.specs.Sound.{Sound}
 use Rattle.model.proofs.Steps.{front-refuses, front-passes}
 use Rattle.model.proofs.Sound.{front-sound}
-use Rattle.answers.proofs.Looked.{refused-out}
+use Rattle.answers.proofs.Looked.{refused-out, written-out}
 use Rattle.sheet.proofs.Answers.{no-own, short, written}
 use Rattle.sheet.proofs.write_sheet.Statement.{statement}
 use Rattle.sheet.proofs.write_sheet.Tie as tie
@@ -88,12 +87,8 @@ returns-3 c =
     let two = p .before .before in
     let l = two .before in
     let b = from-1 (l .before) in
-    let out = b .args .out .now in
-    let e = passed (l .before) ∙ written (given b) (room b) (rw (← l .sheet-len .ensures) (two .if2 .left)) in
-    let z : l .sheet-len .result - 0 ≡ l .sheet-len .result = omega arith in (
-      c .looked-answer .ensures ∙ ap (answerOf 0 (b .args .h) noCounts 0) (l .sheet-len .ensures) ∙ sym (ap (λ (k : Left). k .answer) e),
-      ap₂ (λ (t : List ℕ) (k : ℕ). t ++ drop k out) (p .put-sheet .ensures) (z ∙ l .sheet-len .ensures) ∙ sym (ap (λ (k : Left). overlaid (k .output) out) e),
-    )
+    written-out (given b) (b .args .out .now) (l .sheet-len .result) (c .looked-answer .ensures) (p .put-sheet .ensures) (l .sheet-len .ensures)
+    (passed (l .before) ∙ written (given b) (room b) (rw (← l .sheet-len .ensures) (two .if2 .left)))
 
 pub write-sheet-spec : {M : Type 1} → statement M
 write-sheet-spec =

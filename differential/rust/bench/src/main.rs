@@ -5,7 +5,8 @@
 //! Before each run the sum is copied anew, untimed, so it is in the cache as far as it fits; nothing else is cleared. A row's two sides
 //! take turns, thirty each, so that both have the processor at its fast and slow times. What a call gives is used, so that nothing is
 //! optimised away. The Rust has a quick hash in place of document 01's word key. Beside each row stands what our check of the whole store
-//! takes, which the Rust does not make: a truncate of the same sum from which nothing goes. At the end each kind of row is held to its
+//! takes, which the Rust does not make: a truncate of the same sum from which nothing goes. The published code writes no page; beside ours
+//! stands one over its entries, by 128-bit numbers and `write!`. At the end each kind of row is held to its
 //! goal, and the check to the speed at which a plain loop reads the same words.
 
 mod goals;
@@ -30,6 +31,7 @@ enum Timed {
     Pick,
     WriteSheet,
     ReadSheet,
+    WritePage,
 }
 
 struct Row {
@@ -103,6 +105,7 @@ fn rows(n: usize, k: usize, count: usize) -> Vec<Row> {
     row("table and pick", &strangers, Timed::Pick);
     row("write sheet", &strangers, Timed::WriteSheet);
     row("read sheet", &strangers, Timed::ReadSheet);
+    row("write page", &strangers, Timed::WritePage);
     rows
 }
 
@@ -160,6 +163,10 @@ fn measure(row: &Row, capacity: usize, span: Duration) -> Measured {
             }
             Timed::WriteSheet => ours.add(span, || (), |_| start.write_sheet(&mut text)),
             Timed::ReadSheet => ours.add(span, || start.store.clone(), |store| Ours::read_sheet(&sheet, store)),
+            Timed::WritePage => {
+                ours.add(span, || (), |_| start.write_page(&mut text));
+                theirs.add(span, || (), |_| plain.page());
+            }
         }
     }
     agree(row, &start, &plain);

@@ -101,7 +101,7 @@ impl Pair {
 
     // ---- calls that only look
 
-    /// The table, picks and a view. Both sides hold the same sum.
+    /// The table, picks, the page and a view. Both sides hold the same sum.
     pub fn look(&self, d: &mut Draw) -> Result<(), Difference> {
         let mut sampled = self.published.sampled();
         let table = sampled.table();
@@ -116,6 +116,7 @@ impl Pair {
             let place = if number == 0 { sampled.pick(draw) } else { 0 };
             plain(&format!("pick {draw:?}"), &self.ours.pick(draw), number, h, place, 0)?;
         }
+        self.look_at_page()?;
         self.look_at_entry(d.below(self.ours.header.count + 1), d)
     }
 
@@ -136,6 +137,24 @@ impl Pair {
             let number = if number == 0 { 8 } else { number };
             plain("table without room", &self.ours.table(&mut short), number, h, 0, 0)?;
             same("table without room", short.iter().all(|w| *w == 7), true)?;
+        }
+        Ok(())
+    }
+
+    /// The page of the published entries: with room for two bytes more, which stay as they are, and with one byte too few.
+    fn look_at_page(&self) -> Result<(), Difference> {
+        let h = &self.ours.header;
+        let number = judge::sum_refusal(&self.ours);
+        let text = if number == 0 { self.published.page() } else { String::new() };
+        let mut out = vec![b'?'; 35 * h.count + 2];
+        plain("page", &self.ours.write_page(&mut out), number, h, 0, text.len())?;
+        same("page", String::from_utf8_lossy(&out[..text.len()]).as_ref(), &text)?;
+        same("bytes past the page", out[text.len()..].iter().all(|b| *b == b'?'), true)?;
+        if h.count > 0 {
+            let mut short = vec![b'?'; 35 * h.count - 1];
+            let number = if number == 0 { 8 } else { number };
+            plain("page without room", &self.ours.write_page(&mut short), number, h, 0, 0)?;
+            same("page without room", short.iter().all(|b| *b == b'?'), true)?;
         }
         Ok(())
     }

@@ -1,6 +1,7 @@
 //! Loads the published sum from document 01's header and store words, makes calls of the published code on it, and gives its words.
 
 use crate::data::GeneralizedTableauSum;
+use crate::page::page;
 use crate::sampler::Sampler;
 use crate::storage::{EntryStore, vec::VecStorage};
 use crate::watched::{Watch, Watched};
@@ -88,13 +89,17 @@ fn store(sum: &Sum) -> Store {
     s
 }
 
+/// Bit q: qubit q is lost.
+pub fn loss_word(t: &Tab) -> u64 {
+    t.qubit_status.iter().rev().fold(0, |w, q| 2 * w + q.is_lost() as u64)
+}
+
 fn words(s: &Store, k: usize) -> Vec<u64> {
     let mut all = Vec::new();
     for (i, (t, weight)) in s.entries.iter().enumerate() {
         let (word_key, phase_key) = (s.word_fingerprints[i], s.phase_loss_hashes[i]);
         assert_eq!(s.fingerprints[i], word_key ^ phase_key, "the full key is the XOR of its parts");
-        let loss = t.qubit_status.iter().rev().fold(0, |w, q| 2 * w + q.is_lost() as u64);
-        all.extend([weight.to_bits(), loss, word_key, phase_key, t.coefficients.len() as u64]);
+        all.extend([weight.to_bits(), loss_word(t), word_key, phase_key, t.coefficients.len() as u64]);
         for (value, index) in &t.coefficients {
             all.extend([*index, value.re.to_bits(), value.im.to_bits()]);
         }
@@ -148,6 +153,9 @@ impl Plain {
     pub fn sampled(&mut self) -> Sampled {
         Sampled(self.0.sampler())
     }
+    pub fn page(&self) -> String {
+        page(&self.0.entries)
+    }
 }
 
 /// Two published sums that are given the same calls: one as it is published, and one whose store is watched.
@@ -199,6 +207,11 @@ impl Published {
     pub fn rebuilt(mut self) -> Sum {
         self.plain.entries.for_each_mut_with_keys(|_, _, _, _| {});
         self.sum(&self.plain.entries)
+    }
+
+    /// The sum's weight page.
+    pub fn page(&self) -> String {
+        page(&self.plain.entries)
     }
 
     /// The sum's sampler, with each entry marked by its list place.

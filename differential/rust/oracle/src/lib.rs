@@ -3,6 +3,7 @@
 include!(concat!(env!("OUT_DIR"), "/published/mods.rs"));
 
 mod driver;
+mod page;
 mod watched;
 
 pub use driver::{Call, Plain, Published, Sampled, Sum, entry_len, rows_at};

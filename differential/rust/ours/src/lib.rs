@@ -54,6 +54,7 @@ unsafe extern "C" {
     safe fn tableau_sum_table(h: Header, store: &[u64], out: &mut [u64]) -> Answer;
     safe fn tableau_sum_pick(h: Header, store: &[u64], draw: f64) -> Answer;
     safe fn tableau_sum_write_sheet(h: Header, store: &[u64], out: &mut [u8]) -> Answer;
+    safe fn tableau_sum_write_page(h: Header, store: &[u64], out: &mut [u8]) -> Answer;
     safe fn tableau_sum_view(h: Header, store: &[u64], place: usize) -> Answer;
     safe fn tableau_sum_view_word(h: Header, store: &[u64], place: usize, i: usize) -> u64;
 }
@@ -136,6 +137,9 @@ impl Ours {
     }
     pub fn write_sheet(&self, out: &mut [u8]) -> Answer {
         tableau_sum_write_sheet(self.header, &self.store, out)
+    }
+    pub fn write_page(&self, out: &mut [u8]) -> Answer {
+        tableau_sum_write_page(self.header, &self.store, out)
     }
     pub fn read_sheet(text: &[u8], store: &mut [u64]) -> Answer {
         tableau_sum_read_sheet(text, store)
