@@ -1,4 +1,4 @@
-"""What examples/c/planner.c prints: a GHZ state under noise, its table, picks, sheet, and a refusal."""
+"""What examples/c/planner.c prints: a GHZ state under noise, its table, picks, page, sheet, and a refusal."""
 
 from second import *
 
@@ -40,6 +40,12 @@ def print_picks(header, words):
         print(f"draw {draw:.3f} picks entry {place}")
 
 
+def print_page(header, words):
+    number, text = write_page(header, words, 1 << 20)
+    assert number == 0
+    print(f"\nthe page:\n{text.decode()}", end="")
+
+
 def print_sheet(header, words):
     number, text = write_sheet(header, words, 1 << 20)
     assert number == 0
@@ -57,6 +63,7 @@ def main():
     header, words = noise(header, words)
     print_table(header, words)
     print_picks(header, words)
+    print_page(header, words)
     print_sheet(header, words)
     number, _, _, after = loss(header, words, 0.02, 3)
     print(f"\nloss_channel 3, 2%: refused with {number}, {NO_QUBIT if number == 3 else ''}")

@@ -369,19 +369,6 @@ static inline size_t tableau_sum_sheet_bytes(tableau_sum_size size)
     return (6 * TABLEAU_SUM_COLUMNS + 1) + size.capacity * (1 + size.k + 2 * size.n) * (3 * TABLEAU_SUM_COLUMNS + 1);
 }
 
-/* ---- pages */
-
-/* Bytes of a line of a page: 34 columns, and the line's end. */
-#define TABLEAU_SUM_PAGE_LINE 35
-
-/* The most bytes that the page of a sum of this size has, with every slot in use; 0 if it is outside its limits. */
-static inline size_t tableau_sum_page_bytes(tableau_sum_size size)
-{
-    if (tableau_sum_entry_words(size) == 0)
-        return 0;
-    return size.capacity * TABLEAU_SUM_PAGE_LINE;
-}
-
 /* The number in the field that begins at `field`, or 0 if it is no number below 1000. */
 static inline size_t tableau_sum_small_field(const uint8_t *field)
 {
@@ -414,6 +401,19 @@ static inline tableau_sum_size tableau_sum_sheet_size(const uint8_t *text, size_
     if (tableau_sum_entry_words(named) == 0)
         return size;
     return named;
+}
+
+/* ---- pages */
+
+/* Bytes of a line of a page: 34 columns, and the line's end. */
+#define TABLEAU_SUM_PAGE_LINE 35
+
+/* The most bytes that the page of a sum of this size has, with every slot in use; 0 if it is outside its limits. */
+static inline size_t tableau_sum_page_bytes(tableau_sum_size size)
+{
+    if (tableau_sum_entry_words(size) == 0)
+        return 0;
+    return size.capacity * TABLEAU_SUM_PAGE_LINE;
 }
 
 /* ---- what a number means, in words */

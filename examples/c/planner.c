@@ -1,6 +1,7 @@
 /*
  * A shot planner: three atoms in a GHZ state under noise. It prints what each noisy step did, the sampling table with each entry's share
- * of the shots, the entries that some draws pick, and the sheet; it reads the sheet back, and shows what a refused call looks like.
+ * of the shots, the entries that some draws pick, the page, and the sheet; it reads the sheet back, and shows what a refused call looks
+ * like.
  */
 #include <inttypes.h>
 #include <stdio.h>
@@ -179,6 +180,25 @@ static bool print_sheet(struct sum *s)
     return done;
 }
 
+/* ---- the page */
+
+/* For people: a line for each entry, with its place, its share in parts per million and its lost qubits. */
+static bool print_page(struct sum *s)
+{
+    const size_t bytes = tableau_sum_page_bytes(s->header.size);
+    uint8_t *text = room(bytes, sizeof *text);
+    bool done = false;
+    if (text != NULL) {
+        const tableau_sum_answer a = tableau_sum_write_page(s->header, s->store, s->words, text, bytes);
+        if (accepted(s, "write_page", a)) {
+            printf("\nthe page:\n");
+            done = fwrite(text, 1, a.length, stdout) == a.length;
+        }
+    }
+    free(text);
+    return done;
+}
+
 /* ---- a refusal */
 
 /* There is no qubit 3. The number says so; header and store are as they were, and the sum goes on. */
@@ -201,7 +221,8 @@ static bool show_refusal(struct sum *s)
 int main(void)
 {
     struct sum s = {0};
-    const bool done = begin(&s) && ghz(&s) && noise(&s) && print_table(&s) && print_picks(&s) && print_sheet(&s) && show_refusal(&s);
+    const bool done = begin(&s) && ghz(&s) && noise(&s) && print_table(&s) && print_picks(&s) && print_page(&s) && print_sheet(&s) &&
+                      show_refusal(&s);
     free(s.store);
     return done && fflush(stdout) == 0 ? EXIT_SUCCESS : EXIT_FAILURE;
 }
