@@ -5,8 +5,8 @@ pub const MAX_COEFFICIENTS: usize = 64;
 /// The most entries that a sum can have room for.
 pub const MAX_CAPACITY: usize = 256;
 
-/// Every call of the library takes less stack than this. Measured by the repository's `examples/c/stack.c`: at most 28,808 bytes, by a
-/// channel on a dirty sum of the largest size.
+/// Every call of the library takes less stack than this. Measured by the repository's `examples/c/stack.c`: at most 28,872 bytes, by a
+/// channel on a dirty sum.
 pub const STACK_BYTES: usize = 32768;
 
 /// Columns of a field of a sheet.
