@@ -25,8 +25,9 @@
  *   - Arithmetic rounds to nearest and keeps subnormal numbers. Programs start so, unless they are linked with gcc's -ffast-math.
  *
  * WHAT IS PROMISED, by proof. Whatever the numbers, headers and words are, a call ends, touches the slices only inside their lengths,
- * and gives exactly what documents 01 and 02 of the project say. For a sum that was begun by tableau_sum_fresh or tableau_sum_read_sheet, and
- * whose header and store nothing but these calls has written since, no branch misses an equal entry because of stale keys.
+ * and gives exactly what document 01 of the project says; tableau_sum_write_page, what request 1 of document 02 says, the only one of its
+ * requests that is built. For a sum that was begun by tableau_sum_fresh or tableau_sum_read_sheet, and whose header and store nothing but
+ * these calls has written since, no branch misses an equal entry because of stale keys.
  *
  * Calls on different stores may run at the same time in different threads.
  */

@@ -26,10 +26,11 @@
 //!
 //! # What is promised
 //!
-//! Proved of the library: each call gives exactly what documents 01 and 02 of the project say, for every input; it ends, stays inside the memory
-//! that it is lent, and changes nothing if it is refused; no list of calls leaves stale keys behind that make a branch miss its equal. The
-//! library never panics and never unwinds. It has no state of its own, so a [`TableauSum`] is [`Send`] and [`Sync`] like the vector that it
-//! owns. In a thread with a small stack, [`STACK_BYTES`] says what a call takes.
+//! Proved of the library: each call gives exactly what document 01 of the project says, and the page what request 1 of document 02 says (the
+//! only one of its requests that is built), for every input; it ends, stays inside the memory that it is lent, and changes nothing if it is
+//! refused; no list of calls leaves stale keys behind that make a branch miss its equal. The library never panics and never unwinds. It has no
+//! state of its own, so a [`TableauSum`] is [`Send`] and [`Sync`] like the vector that it owns. In a thread with a small stack,
+//! [`STACK_BYTES`] says what a call takes.
 //!
 //! Not proved, but tested: this crate, which lends the library the memory.
 //!

@@ -23,7 +23,8 @@ pub fn is_written(written: bool) -> bool {
     written
 }
 
-// The text that a call gave this answer for, printed. Whether it was written; a refused call is told.
+// The text that a call gave this answer for, printed. Whether it was written; else it is said why not. (No call writes more than it has room
+// for.)
 fn write_text(what: &[u8], a: Answer, text: &[u8]) -> bool {
     let end = a.length;
     if a.number != 0 {
@@ -33,6 +34,9 @@ fn write_text(what: &[u8], a: Answer, text: &[u8]) -> bool {
     if end <= text.len() {
         return is_written(io::write_all(STDOUT_FILENO, &text[0..end]));
     }
+    printing::say(b"run_circuit: ");
+    printing::say(what);
+    printing::say(b" is longer than the room for it\n");
     false
 }
 

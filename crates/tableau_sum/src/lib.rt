@@ -1,6 +1,7 @@
-// The calls of documents 01 and 02 for programs in C and Rust: what `rt staticlib tableau_sum` puts into libtableau_sum.a. Each makes one call of
-// another crate and promises what that promises. A slice is passed as a pointer and a length, the structs as C lays them out; a call
-// takes its header and store first, then qubits, then rates. After each call, the numbers it can give besides 0.
+// The calls of document 01, and the page of document 02, for programs in C and Rust: what `rt staticlib tableau_sum` puts into
+// libtableau_sum.a. Each makes one call of another crate and promises what that promises. A slice is passed as a pointer and a length, the
+// structs as C lays them out; a call takes its header and store first, then qubits, then rates. After each call, the numbers it can give
+// besides 0.
 use model::Answer;
 use model::Channel;
 use model::Gate;
