@@ -225,9 +225,9 @@ def begun(options, needed):
     """The header and words of the fresh sum."""
     n, capacity = int(options.get("qubits", needed)), int(options.get("capacity", 256))
     threshold, cutoff = float(options.get("threshold", 1e-8)), float(options.get("cutoff", 0))
-    number, header, _, words = second.fresh(n, 1, capacity, threshold, cutoff, [0] * (capacity * second.entry_length(n, 1)))
-    assert number == 0
-    return header, words
+    a = second.fresh(n, 1, capacity, threshold, cutoff, [0] * (capacity * second.entry_length(n, 1)))
+    assert a.number == 0
+    return a.header, a.words
 
 
 def made(header, words, name, p, qubits):
@@ -245,29 +245,16 @@ def made(header, words, name, p, qubits):
     return channels[name](header, words, *p, *qubits)
 
 
-class Watched:
-    """The totals in the middle of a call, seen by standing in for two functions of second.py."""
-
-    def __init__(self):
-        self.merge, self.truncated = second.merge, second.truncated
-        second.merge, second.truncated = self.watched_merge, self.watched_truncated
-        self.begin(0.0)
-
-    def begin(self, before):
-        self.before, self.dropped, self.cut = before, 0.0, 0.0
-
-    def watched_merge(self, entries, branches, threshold, cutoff):
-        counts = self.merge(entries, branches, threshold, cutoff)
-        if counts.dropped:
-            self.dropped = self.before - second.total_weight(entries)
-        return counts
-
-    def watched_truncated(self, entries, cutoff):
-        self.cut = second.total_weight([e for e in entries if not e.weight > cutoff])
-        return self.truncated(entries, cutoff)
+def lost_too(lost, part, whole):
+    """A part of what is left is lost as well."""
+    return lost + (1 - lost) * (part / whole if whole > 0 else 0.0)
 
 
-WATCHED = Watched()
+def lost_after(lost, a, whole):
+    """What is lost of the initial weight after a call on a sum of this total. If a branch was dropped, truncating was on a total of 1."""
+    if not a.header.count:
+        return 1.0
+    return lost_too(lost_too(lost, a.lost.dropped, whole), a.lost.truncated, 1.0 if a.counts.dropped else whole)
 
 
 def run(data):
@@ -276,17 +263,16 @@ def run(data):
     looked = look(data, int(options.get("qubits", 64)))
     assert not looked.bad, looked.bad
     header, words = begun(options, looked.qubits)
-    shown, kept = [], 1.0
+    shown, lost = [], 0.0 if header.count else 1.0
     for instruction, qubits in calls(looked.items):
-        before = second.total_weight(second.entries_of(header, words))
-        WATCHED.begin(before)
-        number, header, counts, words = made(header, words, instruction.name, instruction.rates, qubits)
-        kept *= (1 - WATCHED.dropped / before) * (1 - WATCHED.cut / (1.0 if counts.dropped else before))
+        whole = second.total_weight(second.entries_of(header, words))
+        a = made(header, words, instruction.name, instruction.rates, qubits)
+        header, words, lost = a.header, a.words, lost_after(lost, a, whole)
         name = instruction.written + TAGS.get(instruction.name, b"").decode()
         on = ",".join(map(str, qubits))
-        shown.append([instruction.line, name, on, number, *counts, header.count, WATCHED.dropped, WATCHED.cut])
-        assert number == 0, shown[-1]
-    return header, words, shown, 1 - kept
+        shown.append([instruction.line, name, on, a.number, *a.counts, header.count, *a.lost])
+        assert a.number == 0, shown[-1]
+    return header, words, shown, lost
 
 
 # ---- what is printed
@@ -327,7 +313,7 @@ def numbers(text):
 
 def same(given, wanted):
     if isinstance(wanted, float):
-        return abs(float(given) - wanted) <= 2e-8 * abs(wanted) + 1e-15
+        return abs(float(given) - wanted) <= 2e-8 * abs(wanted)
     return given == str(wanted)
 
 

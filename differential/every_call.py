@@ -1,10 +1,13 @@
-"""What examples/c/every_call.c prints: every call, and every number, one line each."""
+"""What examples/c/every_call.c prints: every call, and every number, one line each; and lists of calls, which are made here one by one."""
 
 import math
 
 from second import *
 
 N, K, CAPACITY = 2, 2, 64
+RATES = [(i + 1) / 256 for i in range(15)]
+# Of a list: the calls that there is room for, the words of a record, with what it can show, and the bytes of a stretch of text.
+MOST, RECORD, TEXT = 16, 11 + 581, 127 + CAPACITY * (1 + K + 2 * N) * 64
 
 
 def digest(words):
@@ -15,12 +18,42 @@ def digest(words):
     return h
 
 
-def tell(call, number, header, h, counts=NO_COUNTS, place=0, length=0):
-    print(call, number, *counts, place, length, header.count, int(header.dirty), f"{h:016x}")
+def tell(call, number, header, h, counts=NO_COUNTS, lost=NO_LOSS, place=0, length=0):
+    weights = [f"{bits_of(w):016x}" for w in lost]
+    print(call, number, *counts, *weights, place, length, header.count, int(header.dirty), f"{h:016x}")
 
 
 def put_field(text, at, x):
     return text[:at] + f"{bits_of(x):>21}".encode() + text[at + 21 :]
+
+
+class Made:
+    """What a call of a list gave: the answer of one that changes the sum, or the number of one that looks, and what it shows."""
+
+    def __init__(self, header, words, given):
+        looks = not isinstance(given, Answer)
+        self.answer = refused(given[0], header, words) if looks else given
+        shown = given[1] if looks else []
+        self.place = shown if isinstance(shown, int) else 0
+        self.words = shown if isinstance(shown, list) else []
+        self.text = shown if isinstance(shown, bytes) else b""
+        self.length = len(self.words) + len(self.text)
+
+    def told(self, name):
+        a = self.answer
+        tell(name, a.number, a.header, 0, a.counts, a.lost, self.place, self.length)
+
+    def record(self):
+        a = self.answer
+        numbers = [a.number, *a.counts, self.place, self.length, *map(bits_of, a.lost), a.header.count, int(a.header.dirty)]
+        return numbers + self.words
+
+
+def laid(parts, stretch, paint):
+    """Each part at the start of its stretch; the paint shows behind it."""
+    for i, part in enumerate(parts):
+        paint[i * stretch : i * stretch + len(part)] = part
+    return digest(paint)
 
 
 class Sum:
@@ -29,12 +62,12 @@ class Sum:
         self.changed("fresh", fresh(N, K, capacity, 0.5, cutoff, self.words))
 
     def changed(self, call, answer):
-        _, self.header, _, self.words = answer
+        self.header, self.words = answer.header, answer.words
         self.told(call, answer)
 
     def told(self, call, answer):
         """A refused call shows the words that it was given."""
-        tell(call, answer.number, answer.header, digest(answer.words), answer.counts)
+        tell(call, answer.number, answer.header, digest(answer.words), answer.counts, answer.lost)
 
     def refused(self, call, number):
         tell(call, number, self.header, digest(self.words))
@@ -49,7 +82,7 @@ class Sum:
         self.call("h", gate, turned_h, 0)
         self.call("s", gate, turned_s, 1)
         self.call("cnot", gate, turned_cnot, 0, 1)
-        self.call("two_qubit_pauli_error", two_qubit_pauli_error, [(i + 1) / 256 for i in range(15)], 1, 0)
+        self.call("two_qubit_pauli_error", two_qubit_pauli_error, RATES, 1, 0)
         self.call("depolarize2", depolarize2, 0.25, 0, 1)
         self.call("reset_loss_channel", reset_loss_channel, 1)
 
@@ -88,13 +121,92 @@ class Sum:
         self.refused("write_page", write_page(header, words, 35 * header.count - 1)[0])
         self.refused("pick", pick(header, words, 1.0)[0])
 
+    def list_told(self, call, number, made):
+        print(call, number, made, self.header.count, int(self.header.dirty), f"{digest(self.words):016x}")
+
+    def made(self, calls, stop=False):
+        """These calls, or those up to the first that is refused."""
+        made = []
+        for _, call, *arguments in calls:
+            made.append(Made(self.header, self.words, call(self.header, self.words, *arguments)))
+            self.header, self.words = made[-1].answer.header, made[-1].answer.words
+            if stop and made[-1].answer.number:
+                break
+        return made
+
+    def circuit(self, text, calls, stop=False):
+        self.changed("read_sheet", read_sheet(text, self.words))
+        made = self.made(calls, stop)
+        self.list_told("run_calls", 0, len(made))
+        for (name, *_), m in zip(calls, made):
+            m.told(name)
+
+    def run(self, number, made):
+        self.list_told("run", number, len(made))
+        records = laid([m.record() for m in made], RECORD, list(range(MOST * RECORD)))
+        text = laid([m.text for m in made], TEXT, [7] * (MOST * TEXT))
+        print(f"written {records:016x} {text:016x}")
+
+    def shows(self, calls):
+        made = self.made(calls)
+        self.run(0, made)
+        for (name, *_), m in zip(calls, made):
+            m.told(name)
+
+    def unfit_lists(self):
+        for _ in range(6):
+            self.run(19, [])
+        self.list_told("run_calls", 19, 0)
+        print("not made: no number of this library")
+        self.list_told("run_calls", 19, 0)
+        self.list_told("run_calls", 0, 0)
+
+
+CIRCUIT = [
+    ("normalise", normalise),
+    ("truncate", truncate),
+    ("h", gate, turned_h, 0),
+    ("cnot", gate, turned_cnot, 0, 1),
+    ("pauli_error", pauli, 0.25, 0.125, 0.0625, 0),
+    ("loss_channel", loss, 0.25, 1),
+    ("cnot", gate, turned_cnot, 1, 1),
+    ("two_qubit_pauli_error", two_qubit_pauli_error, RATES, 1, 0),
+    ("depolarize2", depolarize2, 0.25, 0, 1),
+    ("pauli_error", pauli, 0.5, 0.5, 0.5, 0),
+    ("s", gate, turned_s, 1),
+    ("depolarize1", depolarizing, 0.1875, 0),
+    ("loss_channel", loss, 0.875, 0),
+    ("reset_loss_channel", reset_loss_channel, 1),
+    ("h", gate, turned_h, N),
+]
+SHOWS = [
+    ("loss_channel", loss, 0.25, 0),
+    ("table", table, 4),
+    ("pick", pick, 0.75),
+    ("view", view, 1),
+    ("sheet", write_sheet, TEXT),
+    ("page", write_page, TEXT),
+    ("h", gate, turned_h, 1),
+    ("table", table, 3),
+    ("pick", pick, 1.0),
+    ("view", view, 2),
+    ("page", write_page, TEXT),
+]
+
 
 def main():
     run = Sum(CAPACITY, 0.0)
     run.channels()
     run.looks()
-    run.refusals(run.sheet())
+    text = run.sheet()
+    run.refusals(text)
     Sum(1, 0.0).call("loss_channel", loss, 1.0, 0)
     empty = Sum(CAPACITY, 1.0)
     empty.refused("table", table(empty.header, empty.words, 2 * CAPACITY)[0])
     empty.refused("pick", pick(empty.header, empty.words, 0.0)[0])
+    run.circuit(text, CIRCUIT)
+    run.circuit(text, CIRCUIT, stop=True)
+    run.circuit(text, [])
+    run = Sum(CAPACITY, 0.0)
+    run.shows(SHOWS)
+    run.unfit_lists()

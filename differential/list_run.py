@@ -57,44 +57,38 @@ def some_calls(r):
     return [kind() for kind in kinds] + [r.choice(kinds)() for _ in range(47)] + [sheet]
 
 
-def run(start, calls):
+def flag_after(dirty, call, number):
+    """Document 01's flag: set by a reading or an accepted gate, until the next accepted channel or reset."""
+    if number or call.kind > CNOT:
+        return dirty
+    return call.kind > RESET
+
+
+def run(start, dirty, calls):
     header, words = start.header, start.words
     lines, last = [], None
     for call in calls:
-        a, shown = call.make(header, without_keys(words), TEXT)
-        record = [a.number, *a.counts, shown.place, shown.length, *(without_keys(shown.words) if call.kind == VIEW else shown.words)]
-        record += [7] * (7 + SHOWN - len(record))
+        a, shown = call.make(header._replace(dirty=True), without_keys(words), TEXT)
+        header, words, last = a.header, a.words, shown.text
+        dirty = flag_after(dirty, call, a.number)
+        if call.kind == VIEW:
+            shown = shown._replace(words=without_keys(shown.words))
+        record = record_of(a._replace(header=header._replace(dirty=dirty)), shown)
         text = shown.text + b"x" * (TEXT - len(shown.text))
-        lines.append(f"{numbers([call.kind])}:{numbers(record[:7])}, record {digest(record)}, text {digest(text)}")
-        header, words, last = a.header._replace(dirty=True), a.words, shown.text
-    return header, words, lines, last
-
-
-def flag_after(start, calls, lines):
-    """Document 01's flag: set by a reading or an accepted gate, until the next accepted channel or reset."""
-    dirty = start
-    for call, line in zip(calls, lines):
-        if line.split()[1] == "0":
-            dirty = True if call.kind in (H, S, CNOT) else False if call.kind <= RESET else dirty
-    return dirty
-
-
-def tell(header, words, dirty, lines):
-    print(f"gives 0, count {header.count}, flag {int(dirty)}, digest {digest(without_keys(words))}")
+        lines.append(f"{numbers([call.kind])}:{numbers(record[:NUMBERS])}, record {digest(record)}, text {digest(text)}")
+    print(f"gives 0 {len(calls)}, count {header.count}, flag {int(dirty)}, digest {digest(without_keys(words))}")
     print(*lines, sep="\n")
+    return last
 
 
 def main():
     second.find = find
     # of the first forty seeds the one with most pages whose last sheet has room
     calls = some_calls(random.Random(36))
-    give(FRESH, N, K, CAPACITY, THRESHOLD, CUTOFF, LENGTH)
+    give(FRESH, N, K, CAPACITY, THRESHOLD, CUTOFF, LENGTH, len(calls))
     for call in calls:
         give(call.kind, call.p, call.q, *call.rates)
-    start = second.fresh(N, K, CAPACITY, THRESHOLD, CUTOFF, [7] * (CAPACITY * LENGTH))
-    header, words, lines, sheet_text = run(start, calls)
+    store = [7] * (CAPACITY * LENGTH)
+    sheet_text = run(second.fresh(N, K, CAPACITY, THRESHOLD, CUTOFF, store), False, calls)
     assert sheet_text, "the second run begins with the last sheet"
-    tell(header, words, flag_after(False, calls, lines), lines)
-    start = second.read_sheet(sheet_text, [7] * (CAPACITY * LENGTH))
-    header, words, lines, _ = run(start, calls)
-    tell(header, words, flag_after(True, calls, lines), lines)
+    run(second.read_sheet(sheet_text, store), True, calls)

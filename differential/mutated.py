@@ -171,9 +171,10 @@ def wanted(data, options):
         return None
     header, words = circuits.begun(options, looked.qubits)
     for instruction, qubits in circuits.calls(looked.items):
-        number, header, _, words = circuits.made(header, words, instruction.name, instruction.rates, qubits)
-        if number:
-            return "refused", instruction.line, number
+        a = circuits.made(header, words, instruction.name, instruction.rates, qubits)
+        header, words = a.header, a.words
+        if a.number:
+            return "refused", instruction.line, a.number
     return "sheet", circuits.sheet(header, words, None, None).encode()
 
 

@@ -6,17 +6,25 @@ N, K, CAPACITY, SHOTS = 3, 1, 32, 10000
 NO_QUBIT = "a qubit is not below n, both qubits of a CNOT are the same, or no entry is at that place"
 
 
-def noise(header, words):
+def run_circuit(header, words):
     steps = [
+        ("h 0", gate, turned_h, 0),
+        ("cnot 0 1", gate, turned_cnot, 0, 1),
+        ("cnot 1 2", gate, turned_cnot, 1, 2),
         ("depolarize1 0, 3%", depolarizing, 0.03, 0),
         ("loss_channel 1, 10%", loss, 0.1, 1),
         ("reset_loss_channel 1", reset_loss_channel, 1),
         ("loss_channel 2, 2%", loss, 0.02, 2),
     ]
+    print("call                  merged  stored  dropped  entries  weight dropped  truncated")
+    kept = 1.0
     for name, call, *arguments in steps:
-        number, header, counts, words = call(header, words, *arguments)
+        number, header, counts, lost, words = call(header, words, *arguments)
         assert number == 0
-        print(f"{name:<24} {counts.merged:2} merged, {counts.stored} stored, {counts.dropped} dropped: {header.count} entries")
+        print(f"{name:<20}  {counts.merged:6}  {counts.stored:6}  {counts.dropped:7}  {header.count:7}  ", end="")
+        print(f"{lost.dropped:14.6f}  {lost.truncated:9.6f}")
+        kept = kept * (1 - lost.dropped) * (1 - lost.truncated)
+    print(f"lost in all: {1 - kept:.6f} of the weight; what is left adds up to 1 all the same")
     return header, words
 
 
@@ -50,21 +58,20 @@ def print_sheet(header, words):
     number, text = write_sheet(header, words, 1 << 20)
     assert number == 0
     print(f"\nthe sheet, {len(text)} bytes:\n{text.decode()}", end="")
-    number, copy, _, read = read_sheet(text, words)
-    assert number == 0
-    same = write_sheet(copy, read, 1 << 20) == (0, text)
+    read = read_sheet(text, words)
+    assert read.number == 0
+    copy = read.header
+    same = write_sheet(copy, read.words, 1 << 20) == (0, text)
     print(f"\nread back: {copy.count} entries, {'dirty' if copy.dirty else 'not dirty'}; its sheet is {'the same' if same else 'ANOTHER'}")
 
 
 def main():
-    _, header, _, words = fresh(N, K, CAPACITY, 1e-6, 1e-3, [0] * (CAPACITY * entry_length(N, K)))
-    for turned, *qubits in ((turned_h, 0), (turned_cnot, 0, 1), (turned_cnot, 1, 2)):
-        _, header, _, words = gate(header, words, turned, *qubits)
-    header, words = noise(header, words)
+    begun = fresh(N, K, CAPACITY, 1e-6, 1e-3, [0] * (CAPACITY * entry_length(N, K)))
+    header, words = run_circuit(begun.header, begun.words)
     print_table(header, words)
     print_picks(header, words)
     print_page(header, words)
     print_sheet(header, words)
-    number, _, _, after = loss(header, words, 0.02, 3)
-    print(f"\nloss_channel 3, 2%: refused with {number}, {NO_QUBIT if number == 3 else ''}")
-    print(f"the store is {'as it was' if after == words else 'CHANGED'}")
+    refusal = loss(header, words, 0.02, 3)
+    print(f"\nloss_channel 3, 2%: refused with {refusal.number}, {NO_QUBIT if refusal.number == 3 else ''}")
+    print(f"the store is {'as it was' if refusal.words == words else 'CHANGED'}")

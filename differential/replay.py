@@ -5,6 +5,7 @@ import pathlib
 import calls
 import fresh_sums
 import large_sum
+import lists
 import marked_runs
 import pages
 import sampling
@@ -23,6 +24,6 @@ def sample():
 
 
 def main():
-    for cases in marked_runs, fresh_sums, calls, sampling, sheets_written, sheets_read, large_sum, pages:
+    for cases in marked_runs, fresh_sums, calls, sampling, sheets_written, sheets_read, large_sum, pages, lists:
         cases.main()
     sample()

@@ -6,7 +6,7 @@ only the calls' names, arguments and contracts were known. The table, the pick, 
 written with the code known, so they show slips more than misreadings.
 
 A sum is a header and a list of 64-bit words, laid out as "Store words" says. Each call takes both and gives the number,
-the header, the four counts and the words as they are afterwards; a refused call gives back what it was given.
+the header, the four counts, the weights that were lost and the words as they are afterwards; a refused call gives back what it was given.
 
     python3 differential/second.py replay [FILE]    prints what the program of that name must write, and what it is given into the file
 """
@@ -25,8 +25,10 @@ PAULI_PAIRS = [a + b for a in "IXYZ" for b in "IXYZ" if a + b != "II"]
 
 Header = namedtuple("Header", "n k capacity count threshold cutoff dirty")
 Counts = namedtuple("Counts", "merged stored dropped compared")
-Answer = namedtuple("Answer", "number header counts words")
-NO_COUNTS = Counts(0, 0, 0, 0)
+# By weight: the branches that were dropped, before normalising; the entries that truncating took.
+Lost = namedtuple("Lost", "dropped truncated")
+Answer = namedtuple("Answer", "number header counts lost words")
+NO_COUNTS, NO_LOSS = Counts(0, 0, 0, 0), Lost(0.0, 0.0)
 ZERO_HEADER = Header(0, 0, 0, 0, 0.0, 0.0, False)
 
 
@@ -125,11 +127,11 @@ def entries_of(header, words):
     return [entry_of(words[i * length : (i + 1) * length], header.k) for i in range(header.count)]
 
 
-def done(header, words, entries, dirty, counts=NO_COUNTS):
+def done(header, words, entries, dirty, counts=NO_COUNTS, lost=NO_LOSS):
     """An accepted call: the entries laid into the store, and 0 in every slot past them."""
     new = [w for e in entries for w in words_of(e, header.k)]
     new += [0] * (len(words) - len(new))
-    return Answer(0, header._replace(count=len(entries), dirty=dirty), counts, new)
+    return Answer(0, header._replace(count=len(entries), dirty=dirty), counts, lost, new)
 
 
 # The numbers 1 to 5.
@@ -180,7 +182,7 @@ def first_refusal(header, words, qubits=(), same=False, bad_rates=False):
 
 
 def refused(number, header, words):
-    return Answer(number, header, NO_COUNTS, words)
+    return Answer(number, header, NO_COUNTS, NO_LOSS, words)
 
 
 # Point 2: likeness.
@@ -216,7 +218,9 @@ def find(entries, branch, threshold):
 
 
 def merge(entries, branches, threshold, cutoff):
+    """What became of the branches, and the weights of those that were dropped, added in order."""
     merged = stored = dropped = compared = 0
+    lost = 0.0
     for branch in branches:
         found, tested = find(entries, branch, threshold)
         compared += tested
@@ -228,7 +232,8 @@ def merge(entries, branches, threshold, cutoff):
             stored += 1
         else:
             dropped += 1
-    return Counts(merged, stored, dropped, compared)
+            lost = lost + branch.weight
+    return Counts(merged, stored, dropped, compared), lost
 
 
 # Point 4: the sum.
@@ -252,10 +257,12 @@ def normalised(entries):
 
 
 def truncated(entries, cutoff):
+    """What is left, and the weights of what went, added in list order."""
     kept = [e for e in entries if e.weight > cutoff]
+    taken = total_weight(e for e in entries if not e.weight > cutoff)
     if len(kept) < len(entries):
         normalised(kept)
-    return kept
+    return kept, taken
 
 
 def fresh(n, k, capacity, threshold, cutoff, words):
@@ -284,7 +291,8 @@ def truncate(header, words):
     number = first_refusal(header, words)
     if number:
         return refused(number, header, words)
-    return done(header, words, truncated(entries_of(header, words), header.cutoff), header.dirty)
+    kept, taken = truncated(entries_of(header, words), header.cutoff)
+    return done(header, words, kept, header.dirty, lost=Lost(0.0, taken))
 
 
 # Point 5: channels. An arm is a rate and what it changes: (letter, qubit) for each Pauli, or ("loss", qubit).
@@ -339,12 +347,13 @@ def run_channel(header, words, qubits, named_rates, arms):
         if not any(e.lost_at(q) for q in qubits):
             branches += [branch_of(e, e.weight * rate, changes) for rate, changes in arms]
             e.weight = e.weight * (1.0 - total)
-    counts = merge(entries, branches, header.threshold, header.cutoff)
+    counts, lost = merge(entries, branches, header.threshold, header.cutoff)
     if len(entries) > header.capacity:
         return refused(6, header, words)
     if counts.dropped and not normalised(entries):
         return refused(9, header, words)
-    return done(header, words, truncated(entries, header.cutoff), False, counts)
+    kept, taken = truncated(entries, header.cutoff)
+    return done(header, words, kept, False, counts, Lost(lost, taken))
 
 
 def pauli(header, words, x, y, z, q):
@@ -387,8 +396,8 @@ def reset_loss_channel(header, words, q):
             entries[place] = entries[-1]
             entries.pop()
     live = [branch_of(e, e.weight, [("loss", q)]) for e in leaving]
-    counts = merge(entries, live, header.threshold, header.cutoff)
-    return done(header, words, entries, False, counts)
+    counts, lost = merge(entries, live, header.threshold, header.cutoff)
+    return done(header, words, entries, False, counts, Lost(lost, 0.0))
 
 
 # Point 8: gates. A gate turns one row; r is phase bit 1.
@@ -552,11 +561,11 @@ def read_sheet(text, words):
     head = numbers_on(text[:127], 6)
     lines = lines_of(text[127:])
     if head is None or lines is None:
-        return Answer(7, ZERO_HEADER, NO_COUNTS, words)
+        return refused(7, ZERO_HEADER, words)
     n, k, capacity, count = head[:4]
     parts = parts_on(lines, n, count)
     if parts is None:
-        return Answer(7, ZERO_HEADER, NO_COUNTS, words)
+        return refused(7, ZERO_HEADER, words)
     header = Header(n, k, capacity, count, float_of(head[4]), float_of(head[5]), True)
     number = 0
     if not limits_hold(n, k, capacity, words):
@@ -566,9 +575,9 @@ def read_sheet(text, words):
     elif not all(own[2] <= k and part_sound(words_on(own, cs, rows, k), n, k) for own, cs, rows in parts):
         number = 5
     if number:
-        return Answer(number, ZERO_HEADER, NO_COUNTS, words)
+        return refused(number, ZERO_HEADER, words)
     laid = [w for part in parts for w in words_on(*part, k)]
-    return Answer(0, header, NO_COUNTS, laid + [0] * (len(words) - len(laid)))
+    return Answer(0, header, NO_COUNTS, NO_LOSS, laid + [0] * (len(words) - len(laid)))
 
 
 # Document 02, request 1: the weight page.

@@ -9,9 +9,11 @@ from second import bits_of
 PAULI, LOSS, DEPOLARIZING, PAIRS, DEPOLARIZE2, RESET, H, S, CNOT, TRUNCATE, NORMALISE, TABLE, PICK, SHEET, VIEW, PAGE = range(16)
 # Other items of crates/replay.
 FRESH, READ, WORD_AT, ALL_WORDS, LARGE, SHOW, BYTE_AT, ALL_BYTES, TITLE = range(20, 29)
-LENT = 30
-# The words of a record after its seven numbers: what a table or a view shows.
-SHOWN = 581
+LENT, LIST = 30, 31
+# The words of a call; the numbers of a record, and behind them what a table or a view shows.
+CALL, NUMBERS, SHOWN = 18, 11, 581
+# What a list gives that does not fit.
+DOES_NOT_FIT = 19
 
 # What is given, one item on a line: a kind, how many values follow, and these.
 given = []
@@ -84,7 +86,8 @@ normalise = changing(NORMALISE, 0, 0, [], second.normalise)
 
 
 def looked(number, header, words):
-    return second.Answer(number, header, second.NO_COUNTS, words)
+    """A call that changes nothing: accepted or not, its answer is that of a refusal but for the number."""
+    return second.refused(number, header, words)
 
 
 def table(room):
@@ -143,6 +146,12 @@ def header_words(h):
     return [h.n, h.k, h.capacity, h.count, bits_of(h.threshold), bits_of(h.cutoff), int(h.dirty)]
 
 
+def record_of(a, shown, room=SHOWN):
+    """In words that were 7."""
+    record = [a.number, *a.counts, shown.place, shown.length, *map(bits_of, a.lost), a.header.count, int(a.header.dirty), *shown.words]
+    return record + [7] * (NUMBERS + room - len(record))
+
+
 # What is lent: the header's seven words, how many words of the store, how many bytes of the text.
 lent = [0] * 9
 
@@ -167,6 +176,9 @@ class Text:
     def put(self, data):
         if data != self.bytes:
             self.bytes, self.digest = data, digest(data)
+
+    def put_at(self, at, data):
+        self.put(self.bytes[:at] + data + self.bytes[at + len(data) :])
 
     def fill(self, length, v):
         lend(bytes=length)
@@ -202,11 +214,14 @@ class Sum:
         """The sum as a call left it."""
         self.header, self.words = a.header, a.words
         lent[:7] = header_words(a.header)
-        return f", header{numbers(lent[:7])}, digest {digest(a.words)}"
+
+    def told(self):
+        return f", header{numbers(lent[:7])}, digest {digest(self.words)}"
 
     def begin(self, a, *item):
         give(*item)
-        print(f" {item[0]} begins {a.number}{self.left(a)}")
+        self.left(a)
+        print(f" {item[0]} begins {a.number}{self.told()}")
 
     def call(self, *calls):
         for call in calls:
@@ -215,14 +230,41 @@ class Sum:
     def make(self, call):
         give(call.kind, call.p, call.q, *call.rates)
         a, shown = call.make(self.header, self.words, len(text.bytes))
-        record = [a.number, *a.counts, shown.place, shown.length, *shown.words]
-        record += [7] * (7 + SHOWN - len(record))
-        text.put(shown.text + text.bytes[len(shown.text) :])
-        line = f"{numbers([call.kind, call.p, call.q])} gives{numbers(record[:7])}{self.left(a)}"
+        record = record_of(a, shown)
+        self.left(a)
+        text.put_at(0, shown.text)
+        line = f"{numbers([call.kind, call.p, call.q])} gives{numbers(record[:NUMBERS])}{self.told()}"
         line += f", record {digest(record)}, text {text.digest}"
         if shown.words:
             line += f", shown{numbers(shown.words[:20])}"
         print(line)
+
+    def run(self, calls, stop=False, shown=SHOWN, room=0, **lengths):
+        """The calls as one list. Its log and its words are as long as they need to be, or as said."""
+        length = NUMBERS + shown
+        log, words = lengths.get("log", len(calls) * length), lengths.get("words", len(calls) * CALL)
+        give(LIST, len(calls), stop, shown, room, log, words)
+        for call in calls:
+            give(call.kind, call.p, call.q, *call.rates)
+        sizes = words % CALL == 0 and shown <= SHOWN and len(calls) * length <= log and len(calls) * room <= len(text.bytes)
+        fits = sizes and all(call.kind <= PAGE and (shown == SHOWN or call.kind not in (TABLE, VIEW)) for call in calls)
+        records = self.made(calls, stop, shown, room) if fits else []
+        left = [w for record in records for w in record] + [7] * (log - len(records) * length)
+        print(f" {LIST} gives {0 if fits else DOES_NOT_FIT} {len(records)}{self.told()}, log {digest(left)}, text {text.digest}")
+        for i in range(len(calls) if fits else 0):
+            print(numbers(left[i * length : i * length + NUMBERS]))
+
+    def made(self, calls, stop, shown, room):
+        """The records of the calls that are made."""
+        records = []
+        for i, call in enumerate(calls):
+            a, seen = call.make(self.header, self.words, room)
+            self.left(a)
+            text.put_at(i * room, seen.text)
+            records.append(record_of(a, seen, shown))
+            if stop and a.number:
+                break
+        return records
 
     def put(self, at, v):
         give(WORD_AT, at, v)

@@ -38,9 +38,10 @@ def replaced(items, old, new):
 def sheet(items, options):
     header, words = circuits.begun(options, None)
     for instruction, qubits in circuits.calls(items):
-        number, header, _, words = circuits.made(header, words, instruction.name, instruction.rates, qubits)
-        if number:
-            return f"refused with {number}"
+        a = circuits.made(header, words, instruction.name, instruction.rates, qubits)
+        header, words = a.header, a.words
+        if a.number:
+            return f"refused with {a.number}"
     return circuits.sheet(header, words, None, None)
 
 

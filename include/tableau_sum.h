@@ -6,7 +6,7 @@
  *
  * HOW A SUM IS KEPT. The caller lends a store of 64-bit words, tableau_sum_store_words(size) of them, and keeps a header that
  * describes it. Each call takes both and gives an answer: a number, 0 if the call was done, and the header as it is now, which belongs
- * into the next call. A refused call changes nothing that it was lent.
+ * into the next call. A refused call changes nothing that it was lent. A whole list of calls can be made in one (tableau_sum_run_calls).
  *
  *     tableau_sum_size size = {3, 1, 32};
  *     size_t words = tableau_sum_store_words(size);
@@ -26,8 +26,9 @@
  *
  * WHAT IS PROMISED, by proof. Whatever the numbers, headers and words are, a call ends, touches the slices only inside their lengths,
  * and gives exactly what document 01 of the project says; tableau_sum_write_page, what request 1 of document 02 says, the only one of its
- * requests that is built. For a sum that was begun by tableau_sum_fresh or tableau_sum_read_sheet, and whose header and store nothing but
- * these calls has written since, no branch misses an equal entry because of stale keys.
+ * requests that is built; tableau_sum_run, what its calls give one after the other. For a sum that was begun by tableau_sum_fresh or
+ * tableau_sum_read_sheet, and whose header and store nothing but these calls has written since, no branch misses an equal entry because of
+ * stale keys.
  *
  * Calls on different stores may run at the same time in different threads.
  */
@@ -62,10 +63,11 @@ extern "C" {
 #define TABLEAU_SUM_PAIRS 15
 
 /*
- * Every call takes less stack than this. Measured by examples/c/stack.c, as gcc builds it: at most 28,872 bytes, by a channel on a dirty
- * sum. (32,008 where the dynamic linker has to find memcpy in the middle of that call.)
+ * Every call takes less stack than this. Measured by examples/c/stack.c, as gcc builds it: at most 30,104 bytes, by a list with a two-qubit
+ * channel on a dirty sum; by that channel itself 29,288. (Where the dynamic linker has to find memcpy in the middle of a call it takes some
+ * 3,150 bytes more: 32,456 for that channel.)
  */
-#define TABLEAU_SUM_STACK_BYTES 32768
+#define TABLEAU_SUM_STACK_BYTES 36864
 
 /* ---- the numbers a call gives: the lowest that applies, but the reader tests TABLEAU_SUM_BAD_SHEET first */
 
@@ -94,7 +96,10 @@ enum tableau_sum_number {
     /* The weights of a list that is to be normalised, and is not empty, add up to 0; or a table or a pick is asked of an empty list. */
     TABLEAU_SUM_NO_WEIGHT = 9,
     /* A draw is NaN, below 0, or 1 or more. */
-    TABLEAU_SUM_BAD_DRAW = 10
+    TABLEAU_SUM_BAD_DRAW = 10,
+    /* Of a list of calls, and of no single one: its words are no whole calls of known kinds, or there is no record, no room in it for a
+     * table or a view, or no stretch of text for each. No call of the list was made. (11 to 18 are kept for calls to come.) */
+    TABLEAU_SUM_DOES_NOT_FIT = 19
 };
 
 /* ---- what the calls take and give */
@@ -123,11 +128,24 @@ typedef struct tableau_sum_counts {
     size_t compared; /* full comparisons of a branch with an entry */
 } tableau_sum_counts;
 
+/*
+ * The weight that a channel, a reset or truncate took out of the sum; every other call gives 0 for both. Look at it first: a channel or a
+ * truncate that loses something divides what is left by its total, so the sheet, the page and the table add up to 1 whatever was lost, and
+ * shots are planned as if it had never been there. Only these two figures tell.
+ */
+typedef struct tableau_sum_lost {
+    double dropped;   /* of the branches that were dropped, before anything is divided: their weights, added in order from 0. Of a sum
+                       * whose weights came to 1 this is the fraction that is gone. Branches of rate 0 are dropped too, and add 0 */
+    double truncated; /* of the entries that truncating took: their weights, added in list order from 0. Where a branch was dropped they
+                       * were divided before, so this is a fraction of what the drops had left */
+} tableau_sum_lost;
+
 /* What every call gives. A field that the call has no use for is 0, and after a refusal all but the number and the header are. */
 typedef struct tableau_sum_answer {
     uint64_t number;           /* one of enum tableau_sum_number */
     tableau_sum_header header; /* as it is now. Refused: as it was given; from fresh and read_sheet, zeros */
     tableau_sum_counts counts;
+    tableau_sum_lost lost;
     size_t place;  /* pick: the place of the entry that was picked */
     size_t length; /* table, write_sheet, write_page: elements written; view: words of the entry */
 } tableau_sum_answer;
@@ -145,12 +163,14 @@ TABLEAU_SUM_ASSERT(sizeof(bool) == 1);
 TABLEAU_SUM_ASSERT(sizeof(tableau_sum_size) == 24);
 TABLEAU_SUM_ASSERT(sizeof(tableau_sum_header) == 56);
 TABLEAU_SUM_ASSERT(sizeof(tableau_sum_counts) == 32);
-TABLEAU_SUM_ASSERT(sizeof(tableau_sum_answer) == 112);
+TABLEAU_SUM_ASSERT(sizeof(tableau_sum_lost) == 16);
+TABLEAU_SUM_ASSERT(sizeof(tableau_sum_answer) == 128);
 TABLEAU_SUM_ASSERT(offsetof(tableau_sum_header, dirty) == 48);
 TABLEAU_SUM_ASSERT(offsetof(tableau_sum_answer, header) == 8);
 TABLEAU_SUM_ASSERT(offsetof(tableau_sum_answer, counts) == 64);
-TABLEAU_SUM_ASSERT(offsetof(tableau_sum_answer, length) == 104);
-#undef TABLEAU_SUM_ASSERT
+TABLEAU_SUM_ASSERT(offsetof(tableau_sum_answer, lost) == 96);
+TABLEAU_SUM_ASSERT(offsetof(tableau_sum_answer, place) == 112);
+TABLEAU_SUM_ASSERT(offsetof(tableau_sum_answer, length) == 120);
 #endif
 
 /* ---- a sum begins. The store may hold any words; accepted, every word of it is written */
@@ -171,7 +191,7 @@ TABLEAU_SUM_CALL tableau_sum_answer tableau_sum_fresh(tableau_sum_size size, dou
  */
 TABLEAU_SUM_CALL tableau_sum_answer tableau_sum_read_sheet(const uint8_t *text, size_t text_len, uint64_t *store, size_t store_len);
 
-/* ---- channels: h is the header, store the words that it describes. The answer has the four counts
+/* ---- channels: h is the header, store the words that it describes. The answer has the four counts, and the weight that was lost
  *
  * Each entry whose qubits are live gives a branch for each rate, of its weight times that rate, and keeps its weight times 1 minus the
  * total. Then the branches are merged, in order. If any was dropped the sum is normalised; at the end it is truncated.
@@ -215,7 +235,7 @@ TABLEAU_SUM_CALL tableau_sum_answer tableau_sum_depolarize2(tableau_sum_header h
 
 /*
  * Entries that are lost at qubit q become live, and are merged. An entry that is alike to none and not above the cutoff is dropped;
- * nothing is truncated or normalised. The answer has the four counts.
+ * nothing is truncated or normalised. The answer has the four counts, and the weight that was lost with those.
  * Numbers: 1, 2, 3, 5.
  */
 TABLEAU_SUM_CALL tableau_sum_answer tableau_sum_reset_loss_channel(tableau_sum_header h, uint64_t *store, size_t store_len, size_t q);
@@ -243,7 +263,7 @@ TABLEAU_SUM_CALL tableau_sum_answer tableau_sum_cnot(tableau_sum_header h, uint6
 /* ---- weights */
 
 /*
- * Keeps the entries whose weight is above the cutoff and, if any went, normalises.
+ * Keeps the entries whose weight is above the cutoff and, if any went, normalises. The answer has the weight that they took with them.
  * Numbers: 1, 2, 5.
  */
 TABLEAU_SUM_CALL tableau_sum_answer tableau_sum_truncate(tableau_sum_header h, uint64_t *store, size_t store_len);
@@ -357,6 +377,14 @@ static inline double tableau_sum_float(uint64_t bits)
     return x;
 }
 
+/* The bits of a float. */
+static inline uint64_t tableau_sum_bits(double x)
+{
+    uint64_t bits;
+    memcpy(&bits, &x, sizeof bits);
+    return bits;
+}
+
 /* ---- sheets */
 
 /* Columns of a field of a sheet. */
@@ -417,6 +445,256 @@ static inline size_t tableau_sum_page_bytes(tableau_sum_size size)
     return size.capacity * TABLEAU_SUM_PAGE_LINE;
 }
 
+/* ---- a list of calls, made in one call
+ *
+ * Each call looks at the whole store before it does anything; in a list only those up to the first that is accepted do, and the later ones
+ * look at weights. What is left in header and store, and what is told of each call, is what the same calls give one by one.
+ *
+ *     tableau_sum_call calls[] = {tableau_sum_call_h(0), tableau_sum_call_cnot(0, 1), tableau_sum_call_loss_channel(1, 0.02)};
+ *     tableau_sum_record records[3];
+ *     tableau_sum_ran ran = tableau_sum_run_calls(a.header, store, words, calls, 3, records, true);
+ *     tableau_sum_answer last = tableau_sum_record_answer(records[ran.made - 1], ran.header);
+ */
+
+/* Words of a call; of the numbers that a record begins with; the most that a table or a view shows behind them. */
+#define TABLEAU_SUM_CALL_WORDS 18
+#define TABLEAU_SUM_RECORD_WORDS 11
+#define TABLEAU_SUM_SHOWN_WORDS 581
+
+/* A call as words. The functions below make it. */
+typedef struct tableau_sum_call {
+    uint64_t words[TABLEAU_SUM_CALL_WORDS]; /* kind; two whole numbers: qubits, a place or a room; the bits of 15 rates, or of a draw */
+} tableau_sum_call;
+
+/* What a call of a list gave. tableau_sum_record_answer reads it. */
+typedef struct tableau_sum_record {
+    uint64_t words[TABLEAU_SUM_RECORD_WORDS]; /* number; merged, stored, dropped, compared; place; length; the bits of the dropped and of
+                                               * the truncated weight; entries listed; the flag */
+} tableau_sum_record;
+
+/* What each call of a list has room for. */
+typedef struct tableau_sum_room {
+    size_t shown; /* words behind the numbers of its record: TABLEAU_SUM_SHOWN_WORDS if the list has a table or a view, else 0 will do */
+    size_t bytes; /* bytes of text, for a sheet or a page */
+} tableau_sum_room;
+
+/* What a list of calls gives. */
+typedef struct tableau_sum_ran {
+    uint64_t number;           /* TABLEAU_SUM_DONE, also where calls of the list were refused; or TABLEAU_SUM_DOES_NOT_FIT */
+    size_t made;               /* calls that were made, refused ones counted; they have a record */
+    tableau_sum_header header; /* as the last of them left it */
+} tableau_sum_ran;
+
+#ifdef TABLEAU_SUM_ASSERT
+TABLEAU_SUM_ASSERT(sizeof(tableau_sum_call) == 144);
+TABLEAU_SUM_ASSERT(sizeof(tableau_sum_record) == 88);
+TABLEAU_SUM_ASSERT(sizeof(tableau_sum_room) == 16);
+TABLEAU_SUM_ASSERT(sizeof(tableau_sum_ran) == 72);
+TABLEAU_SUM_ASSERT(offsetof(tableau_sum_ran, header) == 16);
+#undef TABLEAU_SUM_ASSERT
+#endif
+
+/* Word 0 of a call. */
+enum tableau_sum_kind {
+    TABLEAU_SUM_KIND_PAULI_ERROR = 0,
+    TABLEAU_SUM_KIND_LOSS_CHANNEL = 1,
+    TABLEAU_SUM_KIND_DEPOLARIZE1 = 2,
+    TABLEAU_SUM_KIND_TWO_QUBIT_PAULI_ERROR = 3,
+    TABLEAU_SUM_KIND_DEPOLARIZE2 = 4,
+    TABLEAU_SUM_KIND_RESET_LOSS_CHANNEL = 5,
+    TABLEAU_SUM_KIND_H = 6,
+    TABLEAU_SUM_KIND_S = 7,
+    TABLEAU_SUM_KIND_CNOT = 8,
+    TABLEAU_SUM_KIND_TRUNCATE = 9,
+    TABLEAU_SUM_KIND_NORMALISE = 10,
+    TABLEAU_SUM_KIND_TABLE = 11,
+    TABLEAU_SUM_KIND_PICK = 12,
+    TABLEAU_SUM_KIND_SHEET = 13,
+    TABLEAU_SUM_KIND_VIEW = 14,
+    TABLEAU_SUM_KIND_PAGE = 15
+};
+
+/* A call of this kind with these whole numbers, and 0 for each rate. */
+static inline tableau_sum_call tableau_sum_call_of(enum tableau_sum_kind kind, size_t first, size_t second)
+{
+    tableau_sum_call call = {{0}};
+    call.words[0] = (uint64_t)kind;
+    call.words[1] = first;
+    call.words[2] = second;
+    return call;
+}
+
+/* .. and with these rates, 15 at most. */
+static inline tableau_sum_call tableau_sum_call_with(enum tableau_sum_kind kind, size_t first, size_t second, const double *rates,
+                                                     size_t count)
+{
+    tableau_sum_call call = tableau_sum_call_of(kind, first, second);
+    size_t i;
+    for (i = 0; i < count; i++)
+        call.words[3 + i] = tableau_sum_bits(rates[i]);
+    return call;
+}
+
+/* The calls, each with the arguments that it has by itself. Rates and qubits are judged when the call is made. */
+
+static inline tableau_sum_call tableau_sum_call_pauli_error(size_t q, double x, double y, double z)
+{
+    double rates[3];
+    rates[0] = x;
+    rates[1] = y;
+    rates[2] = z;
+    return tableau_sum_call_with(TABLEAU_SUM_KIND_PAULI_ERROR, q, 0, rates, 3);
+}
+
+static inline tableau_sum_call tableau_sum_call_loss_channel(size_t q, double rate)
+{
+    return tableau_sum_call_with(TABLEAU_SUM_KIND_LOSS_CHANNEL, q, 0, &rate, 1);
+}
+
+static inline tableau_sum_call tableau_sum_call_depolarize1(size_t q, double rate)
+{
+    return tableau_sum_call_with(TABLEAU_SUM_KIND_DEPOLARIZE1, q, 0, &rate, 1);
+}
+
+static inline tableau_sum_call tableau_sum_call_two_qubit_pauli_error(size_t p, size_t q, const double rates[TABLEAU_SUM_PAIRS])
+{
+    return tableau_sum_call_with(TABLEAU_SUM_KIND_TWO_QUBIT_PAULI_ERROR, p, q, rates, TABLEAU_SUM_PAIRS);
+}
+
+static inline tableau_sum_call tableau_sum_call_depolarize2(size_t p, size_t q, double rate)
+{
+    return tableau_sum_call_with(TABLEAU_SUM_KIND_DEPOLARIZE2, p, q, &rate, 1);
+}
+
+static inline tableau_sum_call tableau_sum_call_reset_loss_channel(size_t q)
+{
+    return tableau_sum_call_of(TABLEAU_SUM_KIND_RESET_LOSS_CHANNEL, q, 0);
+}
+
+static inline tableau_sum_call tableau_sum_call_h(size_t q)
+{
+    return tableau_sum_call_of(TABLEAU_SUM_KIND_H, q, 0);
+}
+
+static inline tableau_sum_call tableau_sum_call_s(size_t q)
+{
+    return tableau_sum_call_of(TABLEAU_SUM_KIND_S, q, 0);
+}
+
+static inline tableau_sum_call tableau_sum_call_cnot(size_t a, size_t b)
+{
+    return tableau_sum_call_of(TABLEAU_SUM_KIND_CNOT, a, b);
+}
+
+static inline tableau_sum_call tableau_sum_call_truncate(void)
+{
+    return tableau_sum_call_of(TABLEAU_SUM_KIND_TRUNCATE, 0, 0);
+}
+
+static inline tableau_sum_call tableau_sum_call_normalise(void)
+{
+    return tableau_sum_call_of(TABLEAU_SUM_KIND_NORMALISE, 0, 0);
+}
+
+/* The place is in its record. */
+static inline tableau_sum_call tableau_sum_call_pick(double draw)
+{
+    return tableau_sum_call_with(TABLEAU_SUM_KIND_PICK, 0, 0, &draw, 1);
+}
+
+/* What these four show needs room, which only tableau_sum_run lends. A table takes at most `room` words of its record; one that needs more,
+ * 2 for each entry, is refused. */
+
+static inline tableau_sum_call tableau_sum_call_table(size_t room)
+{
+    return tableau_sum_call_of(TABLEAU_SUM_KIND_TABLE, room, 0);
+}
+
+static inline tableau_sum_call tableau_sum_call_view(size_t place)
+{
+    return tableau_sum_call_of(TABLEAU_SUM_KIND_VIEW, place, 0);
+}
+
+static inline tableau_sum_call tableau_sum_call_sheet(void)
+{
+    return tableau_sum_call_of(TABLEAU_SUM_KIND_SHEET, 0, 0);
+}
+
+static inline tableau_sum_call tableau_sum_call_page(void)
+{
+    return tableau_sum_call_of(TABLEAU_SUM_KIND_PAGE, 0, 0);
+}
+
+/*
+ * Makes these calls in order, each on header and store as the last one left them.
+ * calls: their words, one call behind the other. calls_len counts words, as the other lengths count elements.
+ * log: call i has record i, of TABLEAU_SUM_RECORD_WORDS + room.shown words: its numbers, and then what a table or a view shows, as many
+ * words as its length says. text: call i has stretch i, of room.bytes bytes, for a sheet or a page. What no call wrote stays as it is.
+ * room: shown is TABLEAU_SUM_SHOWN_WORDS at most.
+ * stop: the list ends with the first call that is refused. Without it refused calls change nothing but their record, and the rest goes on.
+ * Numbers: 19, with the header as it was given and nothing changed. What each call gave is in its record.
+ */
+TABLEAU_SUM_CALL tableau_sum_ran tableau_sum_run(tableau_sum_header h, uint64_t *store, size_t store_len, const uint64_t *calls,
+                                                 size_t calls_len, uint64_t *log, size_t log_len, uint8_t *text, size_t text_len,
+                                                 tableau_sum_room room, bool stop);
+
+/*
+ * The same for a list of `count` calls that change a sum, which is looked at afterwards. A list with a table or a view gives 19, and sheets
+ * and pages in it are refused with 8, since they have no room here; a pick needs none.
+ * calls, records: so many are there, and they do not overlap; both may be null if the list is empty, which changes nothing. A count that no
+ * memory can hold gives 19. The records may hold anything; those of calls that were not made are left with a number that no call gives.
+ */
+static inline TABLEAU_SUM_CALL tableau_sum_ran tableau_sum_run_calls(tableau_sum_header h, uint64_t *store, size_t store_len,
+                                                                     const tableau_sum_call *calls, size_t count,
+                                                                     tableau_sum_record *records, bool stop)
+{
+    const tableau_sum_room room = {0, 0};
+    uint8_t no_text = 0;
+    tableau_sum_ran ran;
+    ran.number = TABLEAU_SUM_DONE;
+    ran.made = 0;
+    ran.header = h;
+    if (count > (size_t)-1 / sizeof *calls)
+        ran.number = TABLEAU_SUM_DOES_NOT_FIT;
+    else if (count > 0) {
+        memset(records, 0xff, count * sizeof *records);
+        ran = tableau_sum_run(h, store, store_len, calls->words, count * TABLEAU_SUM_CALL_WORDS, records->words,
+                              count * TABLEAU_SUM_RECORD_WORDS, &no_text, 0, room, stop);
+    }
+    return ran;
+}
+
+/* Record i of a log whose records have this room; i is below the calls made. */
+static inline tableau_sum_record tableau_sum_record_at(const uint64_t *log, tableau_sum_room room, size_t i)
+{
+    tableau_sum_record record;
+    memcpy(record.words, log + i * (TABLEAU_SUM_RECORD_WORDS + room.shown), sizeof record.words);
+    return record;
+}
+
+/*
+ * The answer that the call of this record would have given by itself.
+ * h: any header of that list, as the one that it began with: size, threshold and cutoff are the same in all, and the record has the rest.
+ */
+static inline tableau_sum_answer tableau_sum_record_answer(tableau_sum_record record, tableau_sum_header h)
+{
+    const uint64_t *words = record.words;
+    tableau_sum_answer a;
+    a.number = words[0];
+    a.counts.merged = (size_t)words[1];
+    a.counts.stored = (size_t)words[2];
+    a.counts.dropped = (size_t)words[3];
+    a.counts.compared = (size_t)words[4];
+    a.place = (size_t)words[5];
+    a.length = (size_t)words[6];
+    a.lost.dropped = tableau_sum_float(words[7]);
+    a.lost.truncated = tableau_sum_float(words[8]);
+    a.header = h;
+    a.header.count = (size_t)words[9];
+    a.header.dirty = words[10] != 0;
+    return a;
+}
+
 /* ---- what a number means, in words */
 
 static inline const char *tableau_sum_meaning(uint64_t number)
@@ -444,6 +722,8 @@ static inline const char *tableau_sum_meaning(uint64_t number)
         return "the weights add up to 0, or there is no entry";
     case TABLEAU_SUM_BAD_DRAW:
         return "the draw is NaN, below 0, or 1 or more";
+    case TABLEAU_SUM_DOES_NOT_FIT:
+        return "the words are no whole calls of known kinds, or there is no room for what they give";
     default:
         return "no number of this library";
     }

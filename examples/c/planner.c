@@ -1,7 +1,7 @@
 /*
- * A shot planner: three atoms in a GHZ state under noise. It prints what each noisy step did, the sampling table with each entry's share
- * of the shots, the entries that some draws pick, the page, and the sheet; it reads the sheet back, and shows what a refused call looks
- * like.
+ * A shot planner: three atoms in a GHZ state under noise. The circuit is a list of calls, made in one call. It prints what each of them did
+ * and lost, the sampling table with each entry's share of the shots, the entries that some draws pick, the page, and the sheet; it reads the
+ * sheet back, and shows what a refused call looks like.
  */
 #include <inttypes.h>
 #include <stdio.h>
@@ -11,6 +11,7 @@
 #include "tableau_sum.h"
 
 #define SHOTS 10000
+#define LENGTH(array) (sizeof(array) / sizeof(array)[0])
 
 /* A store, and the header that describes it: the one that the last accepted call gave. */
 struct sum {
@@ -21,24 +22,20 @@ struct sum {
 
 /* ---- answers */
 
-/* Keeps the header of an accepted call; of a refused one it says which it was and why. */
-static bool accepted(struct sum *s, const char *call, tableau_sum_answer a)
+/* Whether a call was done. Of a refused one it says which it was and why. */
+static bool was_done(const char *call, uint64_t number)
 {
-    if (a.number != TABLEAU_SUM_DONE) {
-        fprintf(stderr, "%s was refused with %" PRIu64 ": %s\n", call, a.number, tableau_sum_meaning(a.number));
-        return false;
-    }
-    s->header = a.header;
-    return true;
+    if (number != TABLEAU_SUM_DONE)
+        fprintf(stderr, "%s was refused with %" PRIu64 ": %s\n", call, number, tableau_sum_meaning(number));
+    return number == TABLEAU_SUM_DONE;
 }
 
-/* The same for a channel or a reset, with what became of its branches. */
-static bool branched(struct sum *s, const char *call, tableau_sum_answer a)
+/* The same, and the header of an accepted call is kept. */
+static bool accepted(struct sum *s, const char *call, tableau_sum_answer a)
 {
-    if (!accepted(s, call, a))
+    if (!was_done(call, a.number))
         return false;
-    printf("%-24s %2zu merged, %zu stored, %zu dropped: %zu entries\n", call, a.counts.merged, a.counts.stored, a.counts.dropped,
-           s->header.count);
+    s->header = a.header;
     return true;
 }
 
@@ -62,19 +59,46 @@ static bool begin(struct sum *s)
     return s->store != NULL && accepted(s, "fresh", tableau_sum_fresh(size, threshold, cutoff, s->store, s->words));
 }
 
-static bool ghz(struct sum *s)
+/* What a call did: its branches, the entries after it, and the weight that it lost. */
+static void print_step(const char *call, tableau_sum_answer a)
 {
-    return accepted(s, "h 0", tableau_sum_h(s->header, s->store, s->words, 0)) &&
-           accepted(s, "cnot 0 1", tableau_sum_cnot(s->header, s->store, s->words, 0, 1)) &&
-           accepted(s, "cnot 1 2", tableau_sum_cnot(s->header, s->store, s->words, 1, 2));
+    printf("%-20s  %6zu  %6zu  %7zu  %7zu  %14.6f  %9.6f\n", call, a.counts.merged, a.counts.stored, a.counts.dropped, a.header.count,
+           a.lost.dropped, a.lost.truncated);
 }
 
-static bool noise(struct sum *s)
+/* The calls that were made, and what all of them lost. Truncating takes of what the drops have left. */
+static bool print_steps(struct sum *s, const char *const *names, const tableau_sum_record *records, tableau_sum_ran ran)
 {
-    return branched(s, "depolarize1 0, 3%", tableau_sum_depolarize1(s->header, s->store, s->words, 0, 0.03)) &&
-           branched(s, "loss_channel 1, 10%", tableau_sum_loss_channel(s->header, s->store, s->words, 1, 0.1)) &&
-           branched(s, "reset_loss_channel 1", tableau_sum_reset_loss_channel(s->header, s->store, s->words, 1)) &&
-           branched(s, "loss_channel 2, 2%", tableau_sum_loss_channel(s->header, s->store, s->words, 2, 0.02));
+    double kept = 1;
+    printf("call                  merged  stored  dropped  entries  weight dropped  truncated\n");
+    for (size_t i = 0; i < ran.made; i++) {
+        const tableau_sum_answer a = tableau_sum_record_answer(records[i], ran.header);
+        if (!accepted(s, names[i], a))
+            return false;
+        print_step(names[i], a);
+        kept = kept * (1 - a.lost.dropped) * (1 - a.lost.truncated);
+    }
+    printf("lost in all: %.6f of the weight; what is left adds up to 1 all the same\n", 1 - kept);
+    return true;
+}
+
+/* A GHZ state, and then noise: one call of the library, which ends with the first call of the list that it refuses. */
+static bool run_circuit(struct sum *s)
+{
+    static const char *const names[] = {"h 0", "cnot 0 1", "cnot 1 2", "depolarize1 0, 3%", "loss_channel 1, 10%", "reset_loss_channel 1",
+                                        "loss_channel 2, 2%"};
+    const tableau_sum_call calls[] = {
+        tableau_sum_call_h(0),
+        tableau_sum_call_cnot(0, 1),
+        tableau_sum_call_cnot(1, 2),
+        tableau_sum_call_depolarize1(0, 0.03),
+        tableau_sum_call_loss_channel(1, 0.1),
+        tableau_sum_call_reset_loss_channel(1),
+        tableau_sum_call_loss_channel(2, 0.02),
+    };
+    tableau_sum_record records[LENGTH(calls)];
+    const tableau_sum_ran ran = tableau_sum_run_calls(s->header, s->store, s->words, calls, LENGTH(calls), records, true);
+    return was_done("the circuit", ran.number) && print_steps(s, names, records, ran);
 }
 
 /* ---- the sampling table */
@@ -115,7 +139,7 @@ static bool print_picks(struct sum *s)
 {
     static const double draws[] = {0.0, 0.5, 0.96, 0.98, 0.999};
     printf("\n");
-    for (size_t i = 0; i < sizeof draws / sizeof draws[0]; i++) {
+    for (size_t i = 0; i < LENGTH(draws); i++) {
         const tableau_sum_answer a = tableau_sum_pick(s->header, s->store, s->words, draws[i]);
         if (!accepted(s, "pick", a))
             return false;
@@ -221,8 +245,8 @@ static bool show_refusal(struct sum *s)
 int main(void)
 {
     struct sum s = {0};
-    const bool done = begin(&s) && ghz(&s) && noise(&s) && print_table(&s) && print_picks(&s) && print_page(&s) && print_sheet(&s) &&
-                      show_refusal(&s);
+    const bool done =
+        begin(&s) && run_circuit(&s) && print_table(&s) && print_picks(&s) && print_page(&s) && print_sheet(&s) && show_refusal(&s);
     free(s.store);
     return done && fflush(stdout) == 0 ? EXIT_SUCCESS : EXIT_FAILURE;
 }

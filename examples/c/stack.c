@@ -97,6 +97,66 @@ static void view_word(void)
     answer.number = word == 0 ? TABLEAU_SUM_BAD_PLACE : TABLEAU_SUM_DONE;
 }
 
+/* ---- a list of calls */
+
+#define MOST 16
+#define RECORD (TABLEAU_SUM_RECORD_WORDS + TABLEAU_SUM_SHOWN_WORDS)
+#define STRETCH (127 + (1 + K + 2 * N) * 64)
+
+static tableau_sum_call list[MOST];
+static size_t list_len;
+static uint64_t records[MOST * RECORD];
+static uint8_t stretches[MOST * STRETCH];
+static const tableau_sum_room list_room = {TABLEAU_SUM_SHOWN_WORDS, STRETCH};
+
+static void in_list(tableau_sum_call call)
+{
+    list[list_len++] = call;
+}
+
+/* Behind a gate a channel or a reset finds the sum dirty. */
+static void in_list_dirty(tableau_sum_call call)
+{
+    in_list(tableau_sum_call_h(q));
+    in_list(call);
+}
+
+static void list_changes(void)
+{
+    list_len = 0;
+    in_list_dirty(tableau_sum_call_pauli_error(q, rate / 2, rate / 4, rate / 4));
+    in_list_dirty(tableau_sum_call_two_qubit_pauli_error(p, q, rates));
+    in_list_dirty(tableau_sum_call_depolarize1(q, rate));
+    in_list_dirty(tableau_sum_call_depolarize2(p, q, rate));
+    in_list_dirty(tableau_sum_call_loss_channel(q, rate));
+    in_list_dirty(tableau_sum_call_reset_loss_channel(q));
+    in_list(tableau_sum_call_s(q));
+    in_list(tableau_sum_call_cnot(p, q));
+    in_list(tableau_sum_call_truncate());
+    in_list(tableau_sum_call_normalise());
+}
+
+static void list_looks(void)
+{
+    list_len = 0;
+    in_list(tableau_sum_call_table(out_len));
+    in_list(tableau_sum_call_pick(draw));
+    in_list(tableau_sum_call_sheet());
+    in_list(tableau_sum_call_view(place));
+    in_list(tableau_sum_call_page());
+}
+
+/* Its number is that of the first call that is refused. */
+static void run(void)
+{
+    const tableau_sum_ran ran = tableau_sum_run(header, store, WORDS, list->words, list_len * TABLEAU_SUM_CALL_WORDS, records, MOST * RECORD,
+                                                stretches, sizeof stretches, list_room, false);
+    size_t i = 0;
+    while (i + 1 < ran.made && records[i * RECORD] == TABLEAU_SUM_DONE)
+        i++;
+    answer.number = ran.made == list_len ? records[i * RECORD] : ran.number;
+}
+
 /* ---- the sums that calls are tried on, with every coefficient place in use */
 
 struct sum {
@@ -233,6 +293,18 @@ static void sheet_trials(struct call *c)
     attempt(c, "refused with 7", TABLEAU_SUM_BAD_SHEET);
 }
 
+/* On sums that no call takes. */
+static void bad_sums(struct call *c)
+{
+    on(c->full, 0.5, 0);
+    store[WORDS - 1] = 4;
+    attempt(c, "refused with 5", TABLEAU_SUM_BAD_ENTRY);
+    header.cutoff = -1;
+    attempt(c, "refused with 2", TABLEAU_SUM_BAD_HEADER);
+    header.size.n = N + 1;
+    attempt(c, "refused with 1", TABLEAU_SUM_BAD_SIZE);
+}
+
 /* Of every call on a sum: full, with one entry, and refused. */
 static void trials(struct call *c)
 {
@@ -242,13 +314,7 @@ static void trials(struct call *c)
     attempt(c, "full", TABLEAU_SUM_DONE);
     spoil();
     attempt(c, "other arguments", c->spoilt);
-    on(c->full, 0.5, 0);
-    store[WORDS - 1] = 4;
-    attempt(c, "refused with 5", TABLEAU_SUM_BAD_ENTRY);
-    header.cutoff = -1;
-    attempt(c, "refused with 2", TABLEAU_SUM_BAD_HEADER);
-    header.size.n = N + 1;
-    attempt(c, "refused with 1", TABLEAU_SUM_BAD_SIZE);
+    bad_sums(c);
 }
 
 /* .. whose branches merge, are stored and are dropped; with the threshold 0 none is alike to another. */
@@ -289,6 +355,29 @@ static void channel_trials(struct call *c)
     with_rate(0.25);
 }
 
+/* Lists of all that changes a sum and of all that looks at it. A loss finds no room in a full sum; with the cutoff 2 nothing is left. */
+static void run_trials(struct call *c)
+{
+    on(&one, 0.5, 0);
+    list_changes();
+    attempt(c, "one entry", TABLEAU_SUM_DONE);
+    on(c->full, 0.5, 0);
+    attempt(c, "full, refused with 6", TABLEAU_SUM_NO_ROOM);
+    on(c->full, 0, 2);
+    attempt(c, "compared and dropped", TABLEAU_SUM_DONE);
+    bad_sums(c);
+    on(&one, 0.5, 0);
+    list_looks();
+    attempt(c, "looked at", TABLEAU_SUM_DONE);
+    spoil();
+    list_looks();
+    attempt(c, "refused with 8", TABLEAU_SUM_SHORT_OUTPUT);
+    list_changes();
+    attempt(c, "other arguments", c->spoilt);
+    list[0].words[0] = TABLEAU_SUM_KIND_PAGE + 1;
+    attempt(c, "refused with 19", TABLEAU_SUM_DOES_NOT_FIT);
+}
+
 /* view_word gives no number, and 0 for a word that is not there. */
 static void word_trials(struct call *c)
 {
@@ -318,6 +407,7 @@ static struct call calls[] = {
     {"write_page", write_page, trials, &paulis, TABLEAU_SUM_SHORT_OUTPUT, 0, ""},
     {"view", view, trials, &paulis, TABLEAU_SUM_BAD_PLACE, 0, ""},
     {"view_word", view_word, word_trials, &paulis, TABLEAU_SUM_BAD_PLACE, 0, ""},
+    {"run", run, run_trials, &paulis, TABLEAU_SUM_BAD_PLACE, 0, ""},
 };
 #define CALLS (sizeof calls / sizeof calls[0])
 

@@ -1,7 +1,7 @@
 //! The shot planner of examples/c/planner.c, in Rust: it makes the same calls and prints the same.
 
 use std::fmt::Write;
-use tableau_sum::{Counts, Error, Size, TableauSum};
+use tableau_sum::{Circuit, Error, Size, TableauSum};
 
 const SHOTS: f64 = 10000.0;
 
@@ -14,8 +14,7 @@ fn main() -> Result<(), Error> {
 pub fn plan() -> Result<String, Error> {
     let mut sum = TableauSum::fresh(Size { n: 3, k: 1, capacity: 32 }, 1e-6, 1e-3)?;
     let mut report = String::new();
-    ghz(&mut sum)?;
-    noise(&mut sum, &mut report)?;
+    circuit(&mut sum, &mut report)?;
     table(&sum, &mut report)?;
     picks(&sum, &mut report)?;
     page(&sum, &mut report)?;
@@ -29,20 +28,25 @@ macro_rules! line {
     ($report:expr, $($text:tt)*) => { writeln!($report, $($text)*).expect("a string takes every line") };
 }
 
-fn ghz(sum: &mut TableauSum) -> Result<(), Error> {
-    sum.h(0)?;
-    sum.cnot(0, 1)?;
-    sum.cnot(1, 2)
-}
+const CALLS: [&str; 7] =
+    ["h 0", "cnot 0 1", "cnot 1 2", "depolarize1 0, 3%", "loss_channel 1, 10%", "reset_loss_channel 1", "loss_channel 2, 2%"];
 
-fn noise(sum: &mut TableauSum, report: &mut String) -> Result<(), Error> {
-    let mut tell = |call: &str, c: Counts, entries: usize| {
-        line!(report, "{call:<24} {:2} merged, {} stored, {} dropped: {entries} entries", c.merged, c.stored, c.dropped)
-    };
-    tell("depolarize1 0, 3%", sum.depolarize1(0, 0.03)?, sum.len());
-    tell("loss_channel 1, 10%", sum.loss_channel(1, 0.1)?, sum.len());
-    tell("reset_loss_channel 1", sum.reset_loss_channel(1)?, sum.len());
-    tell("loss_channel 2, 2%", sum.loss_channel(2, 0.02)?, sum.len());
+/// A GHZ state, and then noise: one call of the library, which ends with the first call of the circuit that it refuses. Prints what each
+/// did, and what all of them lost. Truncating takes of what the drops have left.
+fn circuit(sum: &mut TableauSum, report: &mut String) -> Result<(), Error> {
+    let mut circuit = Circuit::new();
+    circuit.h(0).cnot(0, 1).cnot(1, 2);
+    circuit.depolarize1(0, 0.03).loss_channel(1, 0.1).reset_loss_channel(1).loss_channel(2, 0.02);
+    line!(report, "call                  merged  stored  dropped  entries  weight dropped  truncated");
+    let mut kept = 1.0;
+    for (call, step) in CALLS.iter().zip(&sum.run_until_refused(&circuit)) {
+        let step = step?;
+        let (c, lost) = (step.counts, step.lost);
+        let counts = format!("{:6}  {:6}  {:7}  {:7}", c.merged, c.stored, c.dropped, step.entries);
+        line!(report, "{call:<20}  {counts}  {:14.6}  {:9.6}", lost.dropped, lost.truncated);
+        kept = kept * (1.0 - lost.dropped) * (1.0 - lost.truncated);
+    }
+    line!(report, "lost in all: {:.6} of the weight; what is left adds up to 1 all the same", 1.0 - kept);
     Ok(())
 }
 

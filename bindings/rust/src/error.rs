@@ -2,6 +2,8 @@ use std::fmt;
 
 /// Why a call was refused: document 01's number for it. A refused call changes nothing. The lowest number that applies is given, but the
 /// reader tests [`Error::BadSheet`] first.
+///
+/// (The library's number 19, of a list of calls that does not fit, is not among them: a [`Circuit`](crate::Circuit) always fits.)
 #[derive(Clone, Copy, Debug, PartialEq, Eq, Hash)]
 #[non_exhaustive]
 pub enum Error {

@@ -1,6 +1,6 @@
 //! The calls as libtableau_sum.a exports them; include/tableau_sum.h says the same for C. A slice is passed as pointer and length.
 
-use crate::{Counts, Size};
+use crate::{Counts, Lost, Size};
 
 #[repr(C)]
 #[derive(Clone, Copy, Debug, PartialEq)]
@@ -18,9 +18,29 @@ pub struct Answer {
     pub number: u64,
     pub header: Header,
     pub counts: Counts,
+    pub lost: Lost,
     pub place: usize,
     pub length: usize,
 }
+
+#[repr(C)]
+#[derive(Clone, Copy, Debug, PartialEq)]
+pub struct Room {
+    pub shown: usize,
+    pub bytes: usize,
+}
+
+#[repr(C)]
+#[derive(Clone, Copy, Debug, PartialEq)]
+pub struct Ran {
+    pub number: u64,
+    pub made: usize,
+    pub header: Header,
+}
+
+/// Words of a call, and of the record of one that shows nothing.
+pub const CALL_WORDS: usize = 18;
+pub const RECORD_WORDS: usize = 11;
 
 // SAFETY, for whoever calls these: each pointer with its length is a slice that may be read, or written if it is `*mut`; the slices of one
 // call do not overlap. There is nothing else to keep: header, words and numbers may be any, and the calls do not unwind.
@@ -45,14 +65,18 @@ extern "C" {
     pub fn tableau_sum_write_page(h: Header, store: *const u64, store_len: usize, out: *mut u8, out_len: usize) -> Answer;
     pub fn tableau_sum_view(h: Header, store: *const u64, store_len: usize, place: usize) -> Answer;
     pub fn tableau_sum_view_word(h: Header, store: *const u64, store_len: usize, place: usize, i: usize) -> u64;
+    pub fn tableau_sum_run(h: Header, store: *mut u64, store_len: usize, calls: *const u64, calls_len: usize, log: *mut u64, log_len: usize,
+                           text: *mut u8, text_len: usize, room: Room, stop: bool) -> Ran;
 }
 
 // The layout that the library was built for.
 const _: () = {
     use std::mem::{offset_of, size_of};
-    assert!(size_of::<Size>() == 24 && size_of::<Counts>() == 32);
+    assert!(size_of::<Size>() == 24 && size_of::<Counts>() == 32 && size_of::<Lost>() == 16);
     assert!(size_of::<Header>() == 56 && offset_of!(Header, dirty) == 48);
-    assert!(size_of::<Answer>() == 112 && offset_of!(Answer, counts) == 64 && offset_of!(Answer, length) == 104);
+    assert!(size_of::<Answer>() == 128 && offset_of!(Answer, counts) == 64 && offset_of!(Answer, lost) == 96);
+    assert!(offset_of!(Answer, place) == 112 && offset_of!(Answer, length) == 120);
+    assert!(size_of::<Room>() == 16 && size_of::<Ran>() == 72 && offset_of!(Ran, header) == 16);
 };
 
 #[cfg(test)]
@@ -89,6 +113,17 @@ mod tests {
         }
     }
 
+    /// A list of these calls, which show nothing.
+    fn ran(h: Header, calls: &[u64]) -> (Ran, [u64; 2 * RECORD_WORDS]) {
+        let (mut store, mut log, mut text) = ([0; 14], [0; 2 * RECORD_WORDS], [0; 1]);
+        let (to, room) = (store.as_mut_ptr(), Room { shown: 0, bytes: 0 });
+        // SAFETY: pointers and lengths are those of arrays, of which no two are the same, and of a slice.
+        let ran = unsafe {
+            tableau_sum_run(h, to, 14, calls.as_ptr(), calls.len(), log.as_mut_ptr(), log.len(), text.as_mut_ptr(), 0, room, false)
+        };
+        (ran, log)
+    }
+
     /// The proofs know one NaN only, so that these bits are handed back as they were given is tested.
     #[test]
     fn a_refused_call_keeps_the_bits_of_a_nan() {
@@ -100,10 +135,13 @@ mod tests {
             for (n, number) in [(1, 2), (65, 1)] {
                 let size = Size { n, ..SIZE };
                 let h = Header { size, count: 1, threshold: f64::from_bits(threshold), cutoff: f64::from_bits(cutoff), dirty: true };
-                for a in answers(h) {
-                    let given = a.header;
-                    assert_eq!((a.number, given.threshold.to_bits(), given.cutoff.to_bits()), (number, threshold, cutoff));
-                }
+                let kept = |h: Header| [h.threshold.to_bits(), h.cutoff.to_bits()] == [threshold, cutoff];
+                assert!(answers(h).iter().all(|a| a.number == number && kept(a.header)));
+                let (made, log) = ran(h, &[0; 2 * CALL_WORDS]);
+                assert_eq!((made.number, made.made, log[0], log[RECORD_WORDS]), (0, 2, number, number));
+                let (unfit, _) = ran(h, &[0; CALL_WORDS - 1]);
+                assert_eq!((unfit.number, unfit.made, unfit.header.count, unfit.header.dirty), (19, 0, 1, true));
+                assert!(kept(made.header) && kept(unfit.header));
             }
         }
     }

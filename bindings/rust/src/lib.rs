@@ -1,18 +1,19 @@
 //! Weighted sums of stabilizer tableaux under Pauli and loss noise: a safe interface to `libtableau_sum.a`, an engine that is proved.
 //!
 //! A [`TableauSum`] is a list of entries, each a tableau with a weight. Channels make branches; a branch that equals an entry merges into
-//! it, others are kept if their weight is above the cutoff. A shot planner reads the sampling table, or the sheet, which is text; people read
-//! the page.
+//! it, others are kept if their weight is above the cutoff. What is not kept is told by each call ([`Lost`]); the weights that are left add
+//! up to 1 all the same. A shot planner reads the sampling table, or the sheet, which is text; people read the page.
 //!
 //! ```
-//! use tableau_sum::{Error, Size, TableauSum};
+//! use tableau_sum::{Error, Lost, Size, TableauSum};
 //!
 //! let mut sum = TableauSum::fresh(Size { n: 3, k: 1, capacity: 32 }, 1e-6, 1e-3)?;
 //! sum.h(0)?;
 //! sum.cnot(0, 1)?;
 //! sum.cnot(1, 2)?; // three atoms in a GHZ state
-//! let counts = sum.depolarize1(0, 0.03)?;
-//! assert_eq!((counts.stored, sum.len()), (3, 4));
+//! let made = sum.depolarize1(0, 0.03)?;
+//! assert_eq!((made.counts.stored, sum.len()), (3, 4));
+//! assert_eq!(made.lost, Lost { dropped: 0.0, truncated: 0.0 });
 //!
 //! let (place, total) = sum.table()?[0]; // by falling weight
 //! assert_eq!((place, total), (0, 0.97));
@@ -23,6 +24,8 @@
 //! assert_eq!(sum.loss_channel(3, 0.1), Err(Error::BadPlace)); // there is no qubit 3
 //! # Ok::<(), Error>(())
 //! ```
+//!
+//! A [`Circuit`] holds a list of such calls, which [`TableauSum::run`] makes in one call of the library.
 //!
 //! # What is promised
 //!
@@ -41,13 +44,15 @@
 
 #![deny(missing_docs)]
 
+mod circuit;
 mod entry;
 mod error;
 mod ffi;
 mod size;
 mod sum;
 
+pub use circuit::{Circuit, Run, Step};
 pub use entry::{Coefficient, Entry, Row};
 pub use error::Error;
 pub use size::{Size, MAX_CAPACITY, MAX_COEFFICIENTS, MAX_QUBITS, STACK_BYTES};
-pub use sum::{Counts, TableauSum};
+pub use sum::{Counts, Lost, Outcome, TableauSum};

@@ -1,4 +1,4 @@
-use crate::ffi::{self, Answer, Header};
+use crate::ffi::{self, Answer, Header, Room};
 use crate::size::PAGE_LINE;
 use crate::{Entry, Error, Size};
 use std::fmt;
@@ -17,6 +17,30 @@ pub struct Counts {
     pub compared: usize,
 }
 
+/// The weight that a channel, a reset or truncating took out of a sum.
+///
+/// A planner looks at it first. A channel or a truncate that loses something divides what is left by its total, so the sheet, the page and
+/// the table add up to 1 whatever was lost, and shots are planned as if it had never been there. Only these two figures tell.
+#[repr(C)]
+#[derive(Clone, Copy, Debug, Default, PartialEq)]
+pub struct Lost {
+    /// Of the branches that were dropped, before anything is divided: their weights, added in order from 0. Of a sum whose weights came to 1
+    /// this is the fraction that is gone. Branches of rate 0 are dropped too, and add 0.
+    pub dropped: f64,
+    /// Of the entries that truncating took: their weights, added in list order from 0. Where a branch was dropped they were divided before,
+    /// so this is a fraction of what the drops had left.
+    pub truncated: f64,
+}
+
+/// What a channel or a reset did.
+#[derive(Clone, Copy, Debug, Default, PartialEq)]
+pub struct Outcome {
+    /// What became of its branches.
+    pub counts: Counts,
+    /// The weight that it took out of the sum.
+    pub lost: Lost,
+}
+
 /// A weighted sum of stabilizer tableaux, with its store. See the [crate's page](crate).
 ///
 /// `==` compares headers and stores word for word, stored keys included.
@@ -27,12 +51,17 @@ pub struct TableauSum {
     store: Vec<u64>,
 }
 
-/// The number of an answer.
-fn judged(answer: Answer) -> Result<Answer, Error> {
-    match answer.number {
-        0 => Ok(answer),
-        number => Err(Error::from_number(number).expect("the library gives no other number")),
+/// Whether a call that gave this number was done.
+pub(crate) fn judged(number: u64) -> Result<(), Error> {
+    match number {
+        0 => Ok(()),
+        _ => Err(Error::from_number(number).expect("a call gives no other number")),
     }
+}
+
+/// An answer, if it is none of a refused call.
+fn accepted(answer: Answer) -> Result<Answer, Error> {
+    judged(answer.number).map(|()| answer)
 }
 
 /// # A sum begins
@@ -65,7 +94,7 @@ impl TableauSum {
     /// With a size outside the limits the store is empty, which the library refuses.
     fn begin(size: Size, call: impl FnOnce(*mut u64, usize) -> Answer) -> Result<Self, Error> {
         let mut store = vec![0; size.store_words().unwrap_or(0)];
-        let answer = judged(call(store.as_mut_ptr(), store.len()))?;
+        let answer = accepted(call(store.as_mut_ptr(), store.len()))?;
         Ok(TableauSum { header: answer.header, store })
     }
 }
@@ -78,39 +107,43 @@ impl TableauSum {
 /// # Errors
 /// Each gives [`Error::BadPlace`], [`Error::BadRate`], [`Error::BadEntry`], [`Error::NoRoom`], [`Error::NoWeight`]; the reset only
 /// [`Error::BadPlace`] and [`Error::BadEntry`].
-// SAFETY, here and below: `change` and `look` pass the store of this sum and its length; other slices are borrowed from elsewhere.
+// SAFETY, here and below: `change`, `make` and `look` pass the store of this sum and its length; other slices are borrowed from elsewhere.
 impl TableauSum {
     /// X, Y and Z at qubit q with these rates.
-    pub fn pauli_error(&mut self, q: usize, rates: [f64; 3]) -> Result<Counts, Error> {
+    pub fn pauli_error(&mut self, q: usize, rates: [f64; 3]) -> Result<Outcome, Error> {
         let [x, y, z] = rates;
-        self.change(|h, store, len| unsafe { ffi::tableau_sum_pauli_error(h, store, len, q, x, y, z) })
+        self.branch(|h, store, len| unsafe { ffi::tableau_sum_pauli_error(h, store, len, q, x, y, z) })
     }
 
     /// Qubit q is lost with this rate.
-    pub fn loss_channel(&mut self, q: usize, rate: f64) -> Result<Counts, Error> {
-        self.change(|h, store, len| unsafe { ffi::tableau_sum_loss_channel(h, store, len, q, rate) })
+    pub fn loss_channel(&mut self, q: usize, rate: f64) -> Result<Outcome, Error> {
+        self.branch(|h, store, len| unsafe { ffi::tableau_sum_loss_channel(h, store, len, q, rate) })
     }
 
     /// X, Y and Z at qubit q, each with a third of the rate.
-    pub fn depolarize1(&mut self, q: usize, rate: f64) -> Result<Counts, Error> {
-        self.change(|h, store, len| unsafe { ffi::tableau_sum_depolarize1(h, store, len, q, rate) })
+    pub fn depolarize1(&mut self, q: usize, rate: f64) -> Result<Outcome, Error> {
+        self.branch(|h, store, len| unsafe { ffi::tableau_sum_depolarize1(h, store, len, q, rate) })
     }
 
     /// Pairs of Paulis at qubits p and q, which may be the same one. The rates are in the order IX IY IZ XI XX XY XZ YI YX YY YZ ZI ZX ZY
     /// ZZ, the first letter at p and the second at q.
-    pub fn two_qubit_pauli_error(&mut self, p: usize, q: usize, rates: [f64; 15]) -> Result<Counts, Error> {
-        self.change(|h, store, len| unsafe { ffi::tableau_sum_two_qubit_pauli_error(h, store, len, p, q, &rates) })
+    pub fn two_qubit_pauli_error(&mut self, p: usize, q: usize, rates: [f64; 15]) -> Result<Outcome, Error> {
+        self.branch(|h, store, len| unsafe { ffi::tableau_sum_two_qubit_pauli_error(h, store, len, p, q, &rates) })
     }
 
     /// Each of these pairs with a fifteenth of the rate.
-    pub fn depolarize2(&mut self, p: usize, q: usize, rate: f64) -> Result<Counts, Error> {
-        self.change(|h, store, len| unsafe { ffi::tableau_sum_depolarize2(h, store, len, p, q, rate) })
+    pub fn depolarize2(&mut self, p: usize, q: usize, rate: f64) -> Result<Outcome, Error> {
+        self.branch(|h, store, len| unsafe { ffi::tableau_sum_depolarize2(h, store, len, p, q, rate) })
     }
 
     /// Entries that are lost at qubit q become live, and are merged. An entry that is alike to none and not above the cutoff is dropped;
     /// nothing is truncated or normalised.
-    pub fn reset_loss_channel(&mut self, q: usize) -> Result<Counts, Error> {
-        self.change(|h, store, len| unsafe { ffi::tableau_sum_reset_loss_channel(h, store, len, q) })
+    pub fn reset_loss_channel(&mut self, q: usize) -> Result<Outcome, Error> {
+        self.branch(|h, store, len| unsafe { ffi::tableau_sum_reset_loss_channel(h, store, len, q) })
+    }
+
+    fn branch(&mut self, call: impl FnOnce(Header, *mut u64, usize) -> Answer) -> Result<Outcome, Error> {
+        self.change(call).map(|answer| Outcome { counts: answer.counts, lost: answer.lost })
     }
 }
 
@@ -143,8 +176,8 @@ impl TableauSum {
     ///
     /// # Errors
     /// [`Error::BadEntry`].
-    pub fn truncate(&mut self) -> Result<(), Error> {
-        self.change(|h, store, len| unsafe { ffi::tableau_sum_truncate(h, store, len) }).map(drop)
+    pub fn truncate(&mut self) -> Result<Lost, Error> {
+        self.change(|h, store, len| unsafe { ffi::tableau_sum_truncate(h, store, len) }).map(|answer| answer.lost)
     }
 
     /// Divides each weight by the total of all, added in list order.
@@ -157,10 +190,33 @@ impl TableauSum {
     }
 
     /// A call that can change the sum. Refused, it has changed no word, and the header stays.
-    fn change(&mut self, call: impl FnOnce(Header, *mut u64, usize) -> Answer) -> Result<Counts, Error> {
-        let answer = judged(call(self.header, self.store.as_mut_ptr(), self.store.len()))?;
+    fn change(&mut self, call: impl FnOnce(Header, *mut u64, usize) -> Answer) -> Result<Answer, Error> {
+        let answer = accepted(call(self.header, self.store.as_mut_ptr(), self.store.len()))?;
         self.header = answer.header;
-        Ok(answer.counts)
+        Ok(answer)
+    }
+
+    /// The calls of a circuit, from their words, each with a record in `log`. Gives how many were made.
+    pub(crate) fn make(&mut self, calls: &[u64], log: &mut [u64], stop: bool) -> usize {
+        let (store, text) = (&mut self.store, &mut [0u8; 0]);
+        let ran = unsafe {
+            ffi::tableau_sum_run(
+                self.header,
+                store.as_mut_ptr(),
+                store.len(),
+                calls.as_ptr(),
+                calls.len(),
+                log.as_mut_ptr(),
+                log.len(),
+                text.as_mut_ptr(),
+                text.len(),
+                Room { shown: 0, bytes: 0 },
+                stop,
+            )
+        };
+        assert_eq!(ran.number, 0, "whole calls of known kinds that show nothing fit, if there is a record for each");
+        self.header = ran.header;
+        ran.made
     }
 }
 
@@ -242,7 +298,7 @@ impl TableauSum {
 
     /// A call that changes nothing.
     fn look(&self, call: impl FnOnce(Header, *const u64, usize) -> Answer) -> Result<Answer, Error> {
-        judged(call(self.header, self.store.as_ptr(), self.store.len()))
+        accepted(call(self.header, self.store.as_ptr(), self.store.len()))
     }
 }
 

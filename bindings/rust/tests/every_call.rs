@@ -1,7 +1,7 @@
-//! The calls of examples/c/every_call.c, made from Rust, give its stored lines: every call, and every number.
+//! The calls of examples/c/every_call.c, made from Rust, give its stored lines: every call, every number, and circuits.
 
 use std::fmt::Write;
-use tableau_sum::{Counts, Error, Size, TableauSum, MAX_QUBITS};
+use tableau_sum::{Circuit, Counts, Error, Lost, Outcome, Size, Step, TableauSum, MAX_QUBITS};
 
 const SIZE: Size = Size { n: 2, k: 2, capacity: 64 };
 
@@ -19,7 +19,7 @@ fn store_digest(sum: &TableauSum) -> u64 {
 /// What a line tells besides the call: a field that a call has no use for is 0.
 #[derive(Default)]
 struct Told {
-    counts: Counts,
+    outcome: Outcome,
     place: usize,
     length: usize,
     count: usize,
@@ -33,16 +33,17 @@ struct Report {
 
 impl Report {
     fn tell(&mut self, call: &str, number: u64, t: Told) {
-        let Counts { merged, stored, dropped, compared } = t.counts;
+        let Counts { merged, stored, dropped, compared } = t.outcome.counts;
+        let [weight, cut] = [t.outcome.lost.dropped, t.outcome.lost.truncated].map(f64::to_bits);
         let Told { place, length, count, digest, .. } = t;
         let dirty = t.dirty as u8;
-        writeln!(self.lines, "{call} {number} {merged} {stored} {dropped} {compared} {place} {length} {count} {dirty} {digest:016x}")
-            .unwrap();
+        write!(self.lines, "{call} {number} {merged} {stored} {dropped} {compared} {weight:016x} {cut:016x} ").unwrap();
+        writeln!(self.lines, "{place} {length} {count} {dirty} {digest:016x}").unwrap();
     }
 
     /// A call that changes the sum.
-    fn changed(&mut self, call: &str, sum: &TableauSum, counts: Counts) {
-        let told = Told { counts, count: sum.len(), dirty: sum.is_dirty(), digest: store_digest(sum), ..Told::default() };
+    fn changed(&mut self, call: &str, sum: &TableauSum, outcome: Outcome) {
+        let told = Told { outcome, count: sum.len(), dirty: sum.is_dirty(), digest: store_digest(sum), ..Told::default() };
         self.tell(call, 0, told);
     }
 
@@ -61,27 +62,36 @@ impl Report {
     fn refused_to_begin(&mut self, call: &str, sum: &TableauSum, outcome: Result<TableauSum, Error>) {
         self.tell(call, outcome.unwrap_err().number(), Told { digest: store_digest(sum), ..Told::default() });
     }
+
+    /// A sum begins.
+    fn fresh(&mut self, size: Size, cutoff: f64) -> TableauSum {
+        let sum = TableauSum::fresh(size, 0.5, cutoff).unwrap();
+        self.changed("fresh", &sum, Outcome::default());
+        sum
+    }
 }
 
-fn channels(report: &mut Report) -> Result<TableauSum, Error> {
-    let rates = std::array::from_fn(|i| (i + 1) as f64 / 256.0);
-    let mut sum = TableauSum::fresh(SIZE, 0.5, 0.0)?;
-    report.changed("fresh", &sum, Counts::default());
-    let mut make = |call: &str, counts: &dyn Fn(&mut TableauSum) -> Result<Counts, Error>| {
-        let counts = counts(&mut sum).unwrap();
-        report.changed(call, &sum, counts);
+fn rates() -> [f64; 15] {
+    std::array::from_fn(|i| (i + 1) as f64 / 256.0)
+}
+
+fn channels(report: &mut Report) -> TableauSum {
+    let mut sum = report.fresh(SIZE, 0.0);
+    let mut make = |call: &str, outcome: &dyn Fn(&mut TableauSum) -> Result<Outcome, Error>| {
+        let outcome = outcome(&mut sum).unwrap();
+        report.changed(call, &sum, outcome);
     };
-    let none = |()| Counts::default();
+    let none = |()| Outcome::default();
     make("pauli_error", &|s| s.pauli_error(0, [0.25, 0.125, 0.0625]));
     make("loss_channel", &|s| s.loss_channel(1, 0.5));
     make("depolarize1", &|s| s.depolarize1(0, 0.1875));
     make("h", &|s| s.h(0).map(none));
     make("s", &|s| s.s(1).map(none));
     make("cnot", &|s| s.cnot(0, 1).map(none));
-    make("two_qubit_pauli_error", &|s| s.two_qubit_pauli_error(1, 0, rates));
+    make("two_qubit_pauli_error", &|s| s.two_qubit_pauli_error(1, 0, rates()));
     make("depolarize2", &|s| s.depolarize2(0, 1, 0.25));
     make("reset_loss_channel", &|s| s.reset_loss_channel(1));
-    Ok(sum)
+    sum
 }
 
 fn looks(report: &mut Report, sum: &TableauSum) -> Result<(), Error> {
@@ -109,11 +119,11 @@ fn sheet(report: &mut Report, sum: &TableauSum) -> Result<(TableauSum, Vec<u8>),
     put_field(&mut text, 105, 1.0 / 32.0);
     put_field(&mut text, 127, 2.0);
     let mut sum = TableauSum::read_sheet(&text)?;
-    report.changed("read_sheet", &sum, Counts::default());
+    report.changed("read_sheet", &sum, Outcome::default());
     sum.normalise()?;
-    report.changed("normalise", &sum, Counts::default());
-    sum.truncate()?;
-    report.changed("truncate", &sum, Counts::default());
+    report.changed("normalise", &sum, Outcome::default());
+    let lost = sum.truncate()?;
+    report.changed("truncate", &sum, Outcome { lost, ..Outcome::default() });
     Ok((sum, text))
 }
 
@@ -135,25 +145,60 @@ fn refusals(report: &mut Report, sum: &mut TableauSum, mut text: Vec<u8>) {
     report.refused("pick", sum, sum.pick(1.0));
 }
 
-fn last_refusals(report: &mut Report) -> Result<(), Error> {
-    let mut full = TableauSum::fresh(Size { capacity: 1, ..SIZE }, 0.5, 0.0)?;
-    report.changed("fresh", &full, Counts::default());
+fn last_refusals(report: &mut Report) {
+    let mut full = report.fresh(Size { capacity: 1, ..SIZE }, 0.0);
     let outcome = full.loss_channel(0, 1.0);
     report.refused("loss_channel", &full, outcome);
-    let empty = TableauSum::fresh(SIZE, 0.5, 1.0)?;
-    report.changed("fresh", &empty, Counts::default());
+    let empty = report.fresh(SIZE, 1.0);
     report.refused("table", &empty, empty.table());
     report.refused("pick", &empty, empty.pick(0.0));
-    Ok(())
+}
+
+/// A circuit on the sum of a sheet: a line for it, and one for each call that was made. A refused one leaves the sum as the last one did.
+fn circuit(report: &mut Report, text: &[u8], circuit: &Circuit, names: &[&str], stop: bool) {
+    let mut sum = TableauSum::read_sheet(text).unwrap();
+    report.changed("read_sheet", &sum, Outcome::default());
+    let mut last = Step { counts: Counts::default(), lost: Lost::default(), entries: sum.len(), dirty: sum.is_dirty() };
+    let run = if stop { sum.run_until_refused(circuit) } else { sum.run(circuit) };
+    let (made, count, dirty) = (run.made(), sum.len(), sum.is_dirty() as u8);
+    writeln!(report.lines, "run_calls 0 {made} {count} {dirty} {:016x}", store_digest(&sum)).unwrap();
+    for (name, given) in names.iter().zip(&run) {
+        let (number, outcome) = match given {
+            Ok(step) => (0, Outcome { counts: step.counts, lost: step.lost }),
+            Err(e) => (e.number(), Outcome::default()),
+        };
+        last = given.unwrap_or(last);
+        report.tell(name, number, Told { outcome, count: last.entries, dirty: last.dirty, ..Told::default() });
+    }
+}
+
+fn circuits(report: &mut Report, text: &[u8]) {
+    let mut calls = Circuit::new();
+    calls.normalise().truncate().h(0).cnot(0, 1).pauli_error(0, [0.25, 0.125, 0.0625]).loss_channel(1, 0.25).cnot(1, 1);
+    calls.two_qubit_pauli_error(1, 0, rates()).depolarize2(0, 1, 0.25).pauli_error(0, [0.5; 3]).s(1).depolarize1(0, 0.1875);
+    calls.loss_channel(0, 0.875).reset_loss_channel(1).h(SIZE.n);
+    let names =
+        "normalise truncate h cnot pauli_error loss_channel cnot two_qubit_pauli_error depolarize2 pauli_error s depolarize1 loss_channel \
+                 reset_loss_channel h";
+    let names: Vec<&str> = names.split(' ').collect();
+    assert_eq!(names.len(), calls.len());
+    circuit(report, text, &calls, &names, false);
+    circuit(report, text, &calls, &names, true);
+    calls.clear();
+    circuit(report, text, &calls, &names, false);
 }
 
 #[test]
 fn gives_what_c_is_given() {
     let mut report = Report { lines: String::new() };
-    let sum = channels(&mut report).unwrap();
+    let sum = channels(&mut report);
     looks(&mut report, &sum).unwrap();
     let (mut sum, text) = sheet(&mut report, &sum).unwrap();
-    refusals(&mut report, &mut sum, text);
-    last_refusals(&mut report).unwrap();
-    assert_eq!(report.lines, include_str!("../../../examples/c/every_call.stdout"));
+    refusals(&mut report, &mut sum, text.clone());
+    last_refusals(&mut report);
+    circuits(&mut report, &text);
+    report.fresh(SIZE, 0.0);
+    // What is left are lists that show something or do not fit: no circuit does.
+    let stored = include_str!("../../../examples/c/every_call.stdout");
+    assert_eq!(Some(report.lines.as_str()), stored.find("\nrun ").map(|end| &stored[..=end]));
 }

@@ -1,12 +1,17 @@
-//! The C header and this crate's declarations say what crates/tableau_sum and crates/model say in Rattle: calls, structs, limits.
+//! The C header and this crate's declarations say what crates/tableau_sum, crates/model, crates/perform and crates/runs say in Rattle:
+//! calls, structs, limits, numbers.
 
 use std::collections::BTreeMap;
 use tableau_sum::{Error, MAX_CAPACITY, MAX_COEFFICIENTS, MAX_QUBITS, STACK_BYTES};
 
 const CALLS: &str = include_str!("../../../crates/tableau_sum/src/lib.rt");
 const TYPES: &str = include_str!("../../../crates/model/src/lib.rt");
+const PERFORM: &str = include_str!("../../../crates/perform/src/lib.rt");
+const RUNS: &str = include_str!("../../../crates/runs/src/lib.rt");
 const HEADER: &str = include_str!("../../../include/tableau_sum.h");
 const FFI: &str = include_str!("../src/ffi.rs");
+/// Where this crate's structs stand that the library takes or gives.
+const STRUCTS: [&str; 3] = [FFI, include_str!("../src/size.rs"), include_str!("../src/sum.rs")];
 
 /// A declaration: what it gives back, and its parameters, each a name and a type.
 type Declared = (String, Vec<(String, String)>);
@@ -93,12 +98,23 @@ fn the_header_declares_every_call() {
     assert_eq!(declared, wanted);
 }
 
+/// The fields of Rust's or Rattle's struct of this name, if it is there and laid out as C does.
+fn members(text: &str, name: &str) -> Option<Vec<(String, String)>> {
+    let aside = |line: &&str| !["//", "#[derive("].iter().any(|start| line.trim_start().starts_with(start));
+    let code: Vec<&str> = text.lines().filter(aside).collect();
+    let code = plain(&code.join("\n").replace("pub ", ""));
+    let (_, rest) = code.split_once(&format!("#[repr(C)] struct {name} {{"))?;
+    Some(fields(rest.split_once('}')?.0))
+}
+
 #[test]
 fn the_structs_have_the_same_fields() {
-    let (header, types) = (plain(&bare(HEADER)), plain(&TYPES.replace("pub ", "")));
-    for name in ["Size", "Header", "Counts", "Answer"] {
-        let (_, rest) = types.split_once(&format!("struct {name} {{")).unwrap();
-        let declared = fields(rest.split_once('}').unwrap().0);
+    let header = plain(&bare(HEADER));
+    let structs =
+        [("Size", TYPES), ("Header", TYPES), ("Counts", TYPES), ("Lost", TYPES), ("Answer", TYPES), ("Room", RUNS), ("Ran", RUNS)];
+    for (name, types) in structs {
+        let declared = members(types, name).unwrap();
+        assert_eq!(STRUCTS.iter().find_map(|text| members(text, name)).as_ref(), Some(&declared), "{name}");
         let own = in_c("", name).trim_end().to_string();
         let members: Vec<String> = declared.iter().map(|(name, kind)| in_c(name, kind) + ";").collect();
         let wanted = format!("typedef struct {own} {{ {} }} {own};", members.join(" "));
@@ -113,6 +129,11 @@ fn the_limits_are_the_same() {
         assert!(HEADER.contains(&format!("#define TABLEAU_SUM_MAX_{name} {limit}\n")));
     }
     assert!(HEADER.contains(&format!("#define TABLEAU_SUM_STACK_BYTES {STACK_BYTES}\n")));
+    for (name, own, words) in [("CALL", "CALL", 18), ("NUMBER", "RECORD", 11), ("SHOWN", "SHOWN", 581)] {
+        assert!(PERFORM.contains(&format!("pub const {name}_WORDS: usize = {words};")));
+        assert!(HEADER.contains(&format!("#define TABLEAU_SUM_{own}_WORDS {words}\n")));
+        assert!(own == "SHOWN" || FFI.contains(&format!("pub const {own}_WORDS: usize = {words};")));
+    }
 }
 
 /// BadSize as C has it: BAD_SIZE.
@@ -129,5 +150,7 @@ fn the_numbers_have_the_same_names_and_meanings() {
         assert!([",", " }"].iter().any(|end| header.contains(&format!("{name} = {}{end}", e.number()))), "{name}");
         assert!(header.contains(&format!("case {name}: return \"{e}\";")), "{name}");
     }
-    assert_eq!(header.matches("case TABLEAU_SUM_").count(), Error::ALL.len() + 1);
+    // and DONE, and the number of a list that does not fit, which no circuit gives
+    assert_eq!(header.matches("case TABLEAU_SUM_").count(), Error::ALL.len() + 2);
+    assert!(RUNS.contains("pub const DOES_NOT_FIT: u64 = 19;") && header.contains("TABLEAU_SUM_DOES_NOT_FIT = 19 }"));
 }

@@ -60,7 +60,7 @@ fn sizes_at_the_limits_and_beside_them() {
     let largest = Size { n: MAX_QUBITS, k: MAX_COEFFICIENTS, capacity: MAX_CAPACITY };
     let mut sum = TableauSum::fresh(largest, 0.5, 0.0).unwrap();
     for q in 0..8 {
-        assert_eq!(sum.loss_channel(56 + q, 0.5).unwrap().stored, 1 << q);
+        assert_eq!(sum.loss_channel(56 + q, 0.5).unwrap().counts.stored, 1 << q);
     }
     assert_eq!(sum.len(), 256);
     assert_eq!((sum.loss_channel(0, 0.5), sum.loss_channel(64, 0.5)), (Err(Error::NoRoom), Err(Error::BadPlace)));

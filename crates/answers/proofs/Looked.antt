@@ -7,7 +7,7 @@ use lib.Dec.{ltb}
 use lib.ListN.{length, drop}
 use borrow.Author.Tests.{lt-ltb, le-ltb}
 use Rattle.model.specs.Entries.{Keyed}
-use Rattle.model.specs.Store.{Holding, testedAll, howMany}
+use Rattle.model.specs.Store.{Holding, noLoss, testedAll, howMany}
 use Rattle.model.specs.Sum.{done, refused}
 use Rattle.model.specs.Numbers.{gives, firstOf}
 use Rattle.model.specs.Calls.{Call, Lent, Left, looking, Form, asBytes, kindOf, engine, sumOf, shows, answerOf, noCounts, plainAnswer, accepted, rebuilt, dirtyAfter, wordsAfter, splitAs, splitBy, testedBy, unless, act, left, acted, refusedLeft, overlaid}
@@ -17,7 +17,7 @@ use Rattle.model.proofs.Steps.{unless-first, unless-none}
 
 -- with this answer, and this output
 abbrev pub lookedLeft : Lent → ℕ → List ℕ → Left
-lookedLeft x place output = record { answer = answerOf 0 (x .header) noCounts place (length output); words = x .words; output = output }
+lookedLeft x place output = record { answer = answerOf 0 (x .header) noCounts noLoss place (length output); words = x .words; output = output }
 
 split-is : (H : Holding Keyed) (c : Call) (l : List Keyed) → splitBy H c l ≡ splitAs H (kindOf c) l
 unfolding splitBy
@@ -67,10 +67,10 @@ pub refused-out : {r : Answer} {l : Left} (x : Lent) (out : List ℕ) (n : ℕ) 
 refused-out x out n e p = (refused-answer x n e p, sym (ap (λ (l : Left). overlaid (l .output) out) p))
 
 -- the text stands at the start of its output slice, of which `long` bytes were lent
-pub written-out : {r : Answer} {l : Left} {piece text : List ℕ} (x : Lent) (out : List ℕ) (long : ℕ) → r ≡ answerOf 0 (x .header) noCounts 0 long → piece ≡ text → long ≡ length text → l ≡ lookedLeft x 0 text
+pub written-out : {r : Answer} {l : Left} {piece text : List ℕ} (x : Lent) (out : List ℕ) (long : ℕ) → r ≡ answerOf 0 (x .header) noCounts noLoss 0 long → piece ≡ text → long ≡ length text → l ≡ lookedLeft x 0 text
     → (r ≡ l .answer) × (piece ++ drop (long - 0) out ≡ overlaid (l .output) out)
 written-out x out long e p q w =
     let z : long - 0 ≡ long = omega arith in (
-      e ∙ ap (answerOf 0 (x .header) noCounts 0) q ∙ sym (ap (λ (l : Left). l .answer) w),
+      e ∙ ap (answerOf 0 (x .header) noCounts noLoss 0) q ∙ sym (ap (λ (l : Left). l .answer) w),
       ap₂ (λ (t : List ℕ) (k : ℕ). t ++ drop k out) p (z ∙ q) ∙ sym (ap (λ (l : Left). overlaid (l .output) out) w),
     )

@@ -2,8 +2,10 @@
 use model::Answer;
 use model::Counts;
 use model::Header;
+use model::Lost;
 use model::Size;
 ghost use mathlib.Core.Path.{_≡_};
+ghost use Rattle.model.specs.Store.{noLoss};
 ghost use Rattle.model.specs.Calls.{headerOf, headerWith, answerOf, noCounts, plainAnswer, zeroHeader};
 
 // ---- headers
@@ -42,21 +44,44 @@ pub fn zero_header() -> Header
 
 // ---- answers
 
-pub fn answer(number: u64, header: Header, counts: Counts, place: usize, length: usize) -> Answer
-    ensures { λ r. ⌜ r ≡ answerOf number header counts place length ⌝ }
+pub fn answer(
+    number: u64,
+    header: Header,
+    counts: Counts,
+    lost: Lost,
+    place: usize,
+    length: usize,
+) -> Answer
+    ensures { λ r. ⌜ r ≡ answerOf number header counts lost place length ⌝ }
 {
     Answer {
         number,
         header,
         counts,
+        lost,
         place,
         length,
     }
 }
 
+pub fn no_loss() -> Lost
+    ensures { λ r. ⌜ r ≡ noLoss ⌝ }
+{
+    Lost {
+        dropped: 0.0,
+        truncated: 0.0,
+    }
+}
+
 // What a call gives that merges nothing.
-fn without_counts(number: u64, header: Header, place: usize, length: usize) -> Answer
-    ensures { λ r. ⌜ r ≡ answerOf number header noCounts place length ⌝ }
+pub fn without_counts(
+    number: u64,
+    header: Header,
+    lost: Lost,
+    place: usize,
+    length: usize,
+) -> Answer
+    ensures { λ r. ⌜ r ≡ answerOf number header noCounts lost place length ⌝ }
 {
     let counts = Counts {
         merged: 0,
@@ -64,19 +89,19 @@ fn without_counts(number: u64, header: Header, place: usize, length: usize) -> A
         dropped: 0,
         compared: 0,
     };
-    answer(number, header, counts, place, length)
+    answer(number, header, counts, lost, place, length)
 }
 
 // A header and a number, and 0 for every other number: what a refusal comes with.
 pub fn plain_answer(header: Header, number: u64) -> Answer
     ensures { λ r. ⌜ r ≡ plainAnswer header number ⌝ }
 {
-    without_counts(number, header, 0, 0)
+    without_counts(number, header, no_loss(), 0, 0)
 }
 
 // What an accepted call that changes nothing gives.
 pub fn looked_answer(header: Header, place: usize, length: usize) -> Answer
-    ensures { λ r. ⌜ r ≡ answerOf 0 header noCounts place length ⌝ }
+    ensures { λ r. ⌜ r ≡ answerOf 0 header noCounts noLoss place length ⌝ }
 {
-    without_counts(0, header, place, length)
+    without_counts(0, header, no_loss(), place, length)
 }

@@ -1,33 +1,24 @@
--- What the call of an instruction loses, and what is lost of the initial weight after it. Assumes nothing.
-use mathlib.Core.Bool.{Bool, cond, _||_}
-use Prim.Native.Nat.{ℕ, _+_}
-use lib.Dec.{eqb, ltb}
+-- What is lost of the initial weight after the call of an instruction. Assumes nothing.
+use mathlib.Core.Bool.{Bool, true, false, cond}
+use Prim.Native.Nat.{ℕ}
+use lib.Dec.{eqb}
 use lib.Ieee.{Float}
 use Rattle.model.specs.Floats.{float, zeroBits, oneBits, plus, minus, times, over, above}
 use Rattle.model.specs.Entries.{listed}
 use Rattle.model.specs.Store.{keyedWeighed}
 use Rattle.model.specs.Sum.{total}
-use Rattle.model.specs.Calls.{Call, byNoise, byReset, Kind, branching, turning, moving, looking, kindOf, Lent, front}
-use Rattle.model.specs.declared.Header.{Header}
-use Rattle.model.specs.declared.Answer.{Answer}
-use Rattle.drops.specs.Lost.{nothing, noiseLost, resetLost}
-use Rattle.drops.specs.declared.Lost.{Lost}
+use Rattle.model.specs.Calls.{Call, Kind, branching, turning, moving, looking, kindOf, Lent, front}
+use Rattle.model.specs.declared.Lost.{Lost}
 
--- ---- what a call loses: only channels and resets drop and truncate
+-- only channels and resets drop and truncate
+abbrev pub losing : Kind → Bool
+losing (branching b) = true
+losing turning = false
+losing moving = false
+losing (looking f) = false
 
-abbrev pub lostAs : Kind → Lent → Lost
-lostAs (branching (byNoise c)) x = noiseLost c x
-lostAs (branching (byReset q)) x = resetLost q x
-lostAs turning x = nothing
-lostAs moving x = nothing
-lostAs (looking f) x = nothing
-
-abbrev pub lostBy : Call → Lent → Lost
-lostBy c x = lostAs (kindOf c) x
-
--- a branch was dropped, or entries went that were there or were stored
-unfoldable pub hasLost : Header → Answer → Bool
-hasLost before a = ltb 0 (a .counts .dropped) || ltb (a .header .count) (before .count + a .counts .stored)
+abbrev pub canLose : Call → Bool
+canLose c = losing (kindOf c)
 
 -- ---- what is lost of the initial weight
 

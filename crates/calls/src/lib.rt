@@ -1,15 +1,12 @@
-// The engine's call for an instruction of a circuit (`make`), what it loses (loss.rt), and, if it was refused for want of room, how far it
-// outgrew that room (outgrown.rt). No call here has a precondition.
+// The engine's call for an instruction of a circuit (`make`), what is lost of the initial weight after it (loss.rt), and, if it was refused
+// for want of room, how far it outgrew that room (outgrown.rt).
 mod loss;
 mod outgrown;
 
 use circuit::Act;
 pub use loss::can_lose;
-pub use loss::has_lost;
-pub use loss::losses;
 pub use loss::lost_after;
 pub use loss::lost_at_start;
-pub use loss::no_loss;
 pub use loss::total;
 use model::Answer;
 use model::Gate;
@@ -18,7 +15,8 @@ pub use outgrown::Outgrown;
 pub use outgrown::outgrown_by;
 ghost use mathlib.Core.Path.{_≡_};
 ghost use Prim.Native.Nat.{ℕ, _≤_};
-ghost use Rattle.model.specs.Calls.{held, gave, step};
+ghost use Rattle.model.specs.Calls.{held};
+ghost use Rattle.model.specs.Known.{Known, Stepped};
 ghost use Rattle.calls.specs.Instructions.{callOf, callOn, soundRates};
 ghost use Rattle.calls.specs.Stores.{storeWords, copied};
 
@@ -30,22 +28,23 @@ pub struct Operation {
     pub q: usize,
 }
 
-// Its call.
-pub fn make(h: Header, store: &mut [u64], o: Operation) -> Answer
-    ensures { λ r. ⌜ gave r (now (store .exit)) ≡ step (callOn o) (held h (now (store .entry))) ⌝ }
+// Its call, told whether all but the weights is known to be sound.
+pub fn make(h: Header, store: &mut [u64], o: Operation, known: bool) -> Answer
+    requires { ⌜ Known known (held h (now store)) ⌝ }
+    ensures { λ r. ⌜ Stepped (callOn o) known (held h (now (store .entry))) r (now (store .exit)) ⌝ }
 {
     let act = o.act;
     let rates = o.rates;
     let p = o.p;
     let q = o.q;
     match act {
-        Act::H => gates::gate(h, store, Gate::H(p)),
-        Act::S => gates::gate(h, store, Gate::S(p)),
-        Act::Channel(channel) => noise::channel(h, store, channel, p),
-        Act::ResetLoss => reset::reset_loss_channel(h, store, p),
-        Act::Cnot => gates::gate(h, store, Gate::Cnot(p, q)),
-        Act::PauliPairs => noise::two_qubit_pauli_error(h, store, rates, p, q),
-        Act::Depolarize2(rate) => noise::depolarize2(h, store, rate, p, q),
+        Act::H => gates::gate_known(h, store, Gate::H(p), known),
+        Act::S => gates::gate_known(h, store, Gate::S(p), known),
+        Act::Channel(channel) => noise::channel_known(h, store, channel, p, known),
+        Act::ResetLoss => reset::reset_loss_channel_known(h, store, p, known),
+        Act::Cnot => gates::gate_known(h, store, Gate::Cnot(p, q), known),
+        Act::PauliPairs => noise::two_qubit_pauli_error_known(h, store, rates, p, q, known),
+        Act::Depolarize2(rate) => noise::depolarize2_known(h, store, rate, p, q, known),
     }
 }
 

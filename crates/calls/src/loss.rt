@@ -1,85 +1,39 @@
-// What the call of an instruction loses, and what is lost of the initial weight after it.
-use crate::Operation;
+// What is lost of the initial weight after the call of an instruction.
 use circuit::Act;
-use drops::Lost;
-use model::Answer;
 use model::Header;
+use model::Lost;
 ghost use mathlib.Core.Path.{_≡_};
-ghost use mathlib.Core.Bool.{false};
 ghost use mathlib.Core.List.{List};
 ghost use Prim.Native.Nat.{ℕ};
 ghost use lib.Ieee.{Float};
-ghost use Rattle.model.specs.Calls.{Lent, held};
-ghost use Rattle.drops.specs.Lost.{nothing};
-ghost use Rattle.calls.specs.Instructions.{callOf, callOn};
+ghost use Rattle.model.specs.Calls.{held};
+ghost use Rattle.model.specs.Known.{Known};
+ghost use Rattle.calls.specs.Instructions.{callOf};
 ghost use Rattle.calls.specs.Loss as Spec;
 
-// ---- what a call loses
-
-pub fn no_loss() -> Lost
-    ensures { λ r. ⌜ r ≡ nothing ⌝ }
-{
-    Lost {
-        dropped: 0.0,
-        truncated: 0.0,
-    }
-}
-
-// Gates lose nothing.
+// Whether its call can lose anything: channels and resets drop and truncate, gates do not.
 pub fn can_lose(act: Act) -> bool
-    ensures { λ r. ⌜ (r ≡ false → (rates : List Float) (p q : ℕ) (x : Lent) → Spec.lostBy (callOf act rates p q) x ≡ nothing) ⌝ }
+    ensures { λ r. ⌜ ((rates : List Float) (p q : ℕ) → r ≡ Spec.canLose (callOf act rates p q)) ⌝ }
 {
     match act {
         Act::H => false,
         Act::S => false,
         Act::Cnot => false,
-        _ => true,
+        Act::Channel(_) => true,
+        Act::ResetLoss => true,
+        Act::PauliPairs => true,
+        Act::Depolarize2(_) => true,
     }
 }
 
-// What the call loses, on a copy of the store as it was before.
-pub fn losses(h: Header, scratch: &mut [u64], o: Operation) -> Lost
-    ensures { λ r. ⌜ r ≡ Spec.lostBy (callOn o) (held h (now (scratch .entry))) ⌝ }
-{
-    let act = o.act;
-    let rates = o.rates;
-    let p = o.p;
-    let q = o.q;
-    match act {
-        Act::H => no_loss(),
-        Act::S => no_loss(),
-        Act::Channel(channel) => drops::channel(h, scratch, channel, p),
-        Act::ResetLoss => drops::reset_loss_channel(h, scratch, p),
-        Act::Cnot => no_loss(),
-        Act::PauliPairs => drops::two_qubit_pauli_error(h, scratch, rates, p, q),
-        Act::Depolarize2(rate) => drops::depolarize2(h, scratch, rate, p, q),
-    }
-}
-
-// Whether something may have been dropped or truncated: a branch was dropped, or fewer entries are listed than there were and were stored.
-// (So it is after a reset that merges entries, too.)
-pub fn has_lost(before: Header, a: Answer) -> bool
-    ensures { λ r. ⌜ r ≡ Spec.hasLost before a ⌝ }
-{
-    let counts = a.counts;
-    let after = a.header;
-    if 0 < counts.dropped {
-        return true;
-    }
-    if after.count < before.count {
-        return true;
-    }
-    after.count - before.count < counts.stored
-}
-
-// ---- what is lost of the initial weight
-
-// The weights of the listed entries, added from 0 in order; 0 of a sum that no call accepts.
-pub fn total(store: &[u64], h: Header) -> f64
+// The weights of the listed entries, added from 0 in order; 0 of a sum that no call accepts. It is told whether all but the weights is known
+// to be sound.
+pub fn total(store: &[u64], h: Header, known: bool) -> f64
+    requires { ⌜ Known known (held h (now store)) ⌝ }
     ensures { λ r. ⌜ r ≡ Spec.weightOf (held h (now (store .entry))) ⌝ }
 {
     let size = h.size;
-    if checks::front(h, store, 0) != 0 {
+    if checks::front(h, store, 0, known) != 0 {
         return 0.0;
     }
     weights::weights_total(store, size, h.count)

@@ -58,7 +58,7 @@ fn answer_on_copy(
     ensures { λ r. ⌜ r ≡ Spec.answerOn (callOn o) h (laid room (now (store .entry))) ⌝ }
 {
     crate::copy(&mut scratch[..room], store);
-    crate::make(h, &mut scratch[..room], o)
+    crate::make(h, &mut scratch[..room], o, false)
 }
 
 // ---- entries

@@ -12,6 +12,7 @@ ghost use Rattle.model.specs.Numbers as Numbers;
 ghost use Rattle.model.specs.Lists.{allBelow};
 ghost use Rattle.model.specs.Calls as Calls;
 ghost use Rattle.model.specs.Calls.{held, shape, wordsSound};
+ghost use Rattle.model.specs.Known.{Known, knownAfter};
 ghost use Rattle.entries.specs.Within.{Within};
 ghost use Rattle.checks.specs.Sound.{entrySound};
 
@@ -245,6 +246,23 @@ pub fn entries_sound(store: &[u64], size: Size, count: usize) -> bool
     true
 }
 
+// Every listed weight is one that a call accepts.
+pub fn weights_sound(store: &[u64], size: Size, count: usize) -> bool
+    requires { ⌜ Within size × (count * entryLen size ≤ length (now store)) ⌝ }
+    ensures { λ r. ⌜ r ≡ Numbers.weightsSound (map strip (listed size count (now (store .entry)))) ⌝ }
+{
+    let len = entries::entry_len(size);
+    let mut i = 0;
+    while i < count {
+        if weight_sound(store[i * len]) {
+            i += 1;
+        } else {
+            return false;
+        }
+    }
+    true
+}
+
 // Every word is 0: their OR is.
 pub fn all_zero(part: &[u64]) -> bool
     ensures { λ r. ⌜ r ≡ Numbers.allZero (now (part .entry)) ⌝ }
@@ -258,13 +276,17 @@ pub fn all_zero(part: &[u64]) -> bool
     any == 0
 }
 
-// Number 5 does not apply: the listed entries are sound, and the slots past the count are 0.
-fn words_sound(h: Header, store: &[u64]) -> bool
-    requires { ⌜ Numbers.firstOf (shape (held h (now store))) ≡ 0 ⌝ }
+// Number 5 does not apply: the listed entries are sound, and the slots past the count are 0. Of these only the weights are looked at where
+// all else is known.
+fn words_sound(h: Header, store: &[u64], known: bool) -> bool
+    requires { ⌜ (Numbers.firstOf (shape (held h (now store))) ≡ 0) × Known known (held h (now store)) ⌝ }
     ensures { λ r. ⌜ r ≡ wordsSound (held h (now (store .entry))) ⌝ }
 {
     let size = h.size;
     let count = h.count;
+    if known {
+        return weights_sound(store, size, count);
+    }
     let past = count * entries::entry_len(size);
     if all_zero(&store[past..]) {
         return entries_sound(store, size, count);
@@ -284,8 +306,10 @@ pub fn test(number: u64, applies: bool) -> u64
     0
 }
 
-// EVERY CALL BEGINS WITH THIS: 1, 2, the number `own` that its own tests of its arguments gave, or 5: the first that is not 0.
-pub fn front(h: Header, store: &[u64], own: u64) -> u64
+// EVERY CALL BEGINS WITH THIS: 1, 2, the number `own` that its own tests of its arguments gave, or 5: the first that is not 0. Whoever has
+// made an accepted call on the sum, and nothing else since, may say that it is known; a caller from outside is not asked.
+pub fn front(h: Header, store: &[u64], own: u64, known: bool) -> u64
+    requires { ⌜ Known known (held h (now store)) ⌝ }
     ensures { λ r. ⌜ r ≡ Calls.front own (held h (now (store .entry))) ⌝ }
 {
     let number = shape_number(h, store);
@@ -295,8 +319,18 @@ pub fn front(h: Header, store: &[u64], own: u64) -> u64
     if own != 0 {
         return own;
     }
-    if words_sound(h, store) {
+    if words_sound(h, store, known) {
         return 0;
     }
     5
+}
+
+// What is known after a call that gave this number.
+pub fn known_after(known: bool, number: u64) -> bool
+    ensures { λ r. ⌜ r ≡ knownAfter known number ⌝ }
+{
+    if known {
+        return true;
+    }
+    number == 0
 }

@@ -7,6 +7,7 @@ use crate::runs::Run;
 ghost use Prim.Native.Nat.{_≤_};
 ghost use lib.ListN.{length};
 ghost use mathlib.Core.Path.{_≡_};
+ghost use Rattle.circuit.specs.Arguments as Reads;
 
 // One argument, from where to where it stands; `more`: another one follows.
 pub struct Argument {
@@ -28,6 +29,7 @@ pub struct Arguments {
 
 fn wrong(fault: Fault, from: usize, to: usize) -> Argument
     ensures { λ r. ⌜ (r .from ≡ from) × (r .to ≡ to) ⌝ }
+    ensures is { λ r. ⌜ r ≡ Reads.wrong fault from to ⌝ }
 {
     Argument {
         verdict: Verdict::Bad(fault),
@@ -38,49 +40,46 @@ fn wrong(fault: Fault, from: usize, to: usize) -> Argument
     }
 }
 
+fn sound(value: f64, from: usize, to: usize, more: bool) -> Argument
+    ensures { λ r. ⌜ (r .from ≡ from) × (r .to ≡ to) ⌝ }
+    ensures is { λ r. ⌜ r ≡ Reads.sound value from to more ⌝ }
+{
+    Argument {
+        verdict: Verdict::Sound,
+        value,
+        from,
+        to,
+        more,
+    }
+}
+
 // Where a word that is shown ends: it has a byte, unless the line has none there.
 fn shown_to(line: &[u8], from: usize, to: usize) -> usize
     requires { ⌜ (from ≤ to) × (to ≤ length (now line)) ⌝ }
     ensures { λ r. ⌜ (from ≤ r) × (r ≤ length (now (line .entry))) ⌝ }
+    ensures is { λ r. ⌜ r ≡ Reads.shownTo (now (line .entry)) from to ⌝ }
 {
     if from < to {
         return to;
     }
-    if from < line.len() {
-        if line[from] != b'#' {
-            return from + 1;
-        }
+    if runs::is_end(line, from) {
+        return from;
     }
-    from
+    from + 1
 }
 
 // A sound argument, and the `,` or `)` after it.
 fn closed(line: &[u8], value: f64, from: usize, end: usize) -> Argument
     requires { ⌜ (from ≤ end) × (end ≤ length (now line)) ⌝ }
     ensures { λ r. ⌜ (from ≤ r .from) × (r .from ≤ r .to) × (r .to ≤ length (now (line .entry))) ⌝ }
+    ensures is { λ r. ⌜ r ≡ Reads.closed (now (line .entry)) value from end ⌝ }
 {
     let at = runs::end(line, Run::Blanks, end);
-    if at < line.len() {
-        let b = line[at];
-        let to = at + 1;
-        if b == b',' {
-            return Argument {
-                verdict: Verdict::Sound,
-                value,
-                from,
-                to,
-                more: true,
-            };
-        }
-        if b == b')' {
-            return Argument {
-                verdict: Verdict::Sound,
-                value,
-                from,
-                to,
-                more: false,
-            };
-        }
+    if runs::is_at(line, at, b',') {
+        return sound(value, from, at + 1, true);
+    }
+    if runs::is_at(line, at, b')') {
+        return sound(value, from, at + 1, false);
     }
     wrong(Fault::Bracket, at, runs::end(line, Run::Word, at))
 }
@@ -89,6 +88,7 @@ fn closed(line: &[u8], value: f64, from: usize, end: usize) -> Argument
 fn argument_at(line: &[u8], at: usize) -> Argument
     requires { ⌜ at ≤ length (now line) ⌝ }
     ensures { λ r. ⌜ (at ≤ r .from) × (r .from ≤ r .to) × (r .to ≤ length (now (line .entry))) ⌝ }
+    ensures is { λ r. ⌜ r ≡ Reads.argumentAt (now (line .entry)) at ⌝ }
 {
     let from = runs::end(line, Run::Blanks, at);
     let word = runs::end(line, Run::Argument, from);
@@ -107,6 +107,7 @@ fn argument_at(line: &[u8], at: usize) -> Argument
 fn inside(line: &[u8], at: usize) -> Arguments
     requires { ⌜ at ≤ length (now line) ⌝ }
     ensures { λ r. ⌜ (at ≤ r .from) × (r .from ≤ r .to) × (r .to ≤ length (now (line .entry))) ⌝ }
+    ensures is { λ r. ⌜ r ≡ Reads.argumentsLeft 15 (now (line .entry)) Reads.noRates 0 at ⌝ }
 {
     let mut rates = [0.0f64; 15];
     let mut to = at;
@@ -149,11 +150,10 @@ fn inside(line: &[u8], at: usize) -> Arguments
 pub fn arguments_at(line: &[u8], at: usize) -> Arguments
     requires { ⌜ at ≤ length (now line) ⌝ }
     ensures { λ r. ⌜ (at ≤ r .from) × (r .from ≤ r .to) × (r .to ≤ length (now (line .entry))) ⌝ }
+    ensures is { λ r. ⌜ r ≡ Reads.argumentsAt (now (line .entry)) at ⌝ }
 {
-    if at < line.len() {
-        if line[at] == b'(' {
-            return inside(line, at + 1);
-        }
+    if runs::is_at(line, at, b'(') {
+        return inside(line, at + 1);
     }
     Arguments {
         verdict: Verdict::Sound,

@@ -26,6 +26,7 @@ pub use targets::target;
 ghost use mathlib.Core.Path.{_≡_};
 ghost use Prim.Native.Nat.{_+_, _-_, _≤_, _<_};
 ghost use lib.ListN.{length, take, drop};
+ghost use Rattle.circuit.specs.Lines as Lines;
 ghost use Rattle.circuit.specs.Names as Names;
 ghost use Rattle.circuit.specs.Places.{Read};
 
@@ -33,6 +34,7 @@ ghost use Rattle.circuit.specs.Places.{Read};
 
 fn plain(item: Item, from: usize, to: usize) -> Line
     ensures { λ r. ⌜ (r .item ≡ item) × (r .from ≡ from) × (r .to ≡ to) × (r .targets ≡ to) ⌝ }
+    ensures is { λ r. ⌜ r ≡ Lines.plain item from to ⌝ }
 {
     Line {
         item,
@@ -47,6 +49,7 @@ fn plain(item: Item, from: usize, to: usize) -> Line
 fn bad_word(line: &[u8], fault: Fault, from: usize) -> Line
     requires { ⌜ from ≤ length (now line) ⌝ }
     ensures { λ r. ⌜ Read (now (line .entry)) r ⌝ }
+    ensures is { λ r. ⌜ r ≡ Lines.badWord (now (line .entry)) fault from ⌝ }
 {
     plain(Item::Bad(fault), from, runs::end(line, Run::Word, from))
 }
@@ -55,6 +58,7 @@ fn bad_word(line: &[u8], fault: Fault, from: usize) -> Line
 fn alone(line: &[u8], item: Item, from: usize, at: usize) -> Line
     requires { ⌜ (from ≤ at) × (at ≤ length (now line)) × ((a : Act) → item ≡ Item.Call a → ⊥) ⌝ }
     ensures { λ r. ⌜ Read (now (line .entry)) r ⌝ }
+    ensures is { λ r. ⌜ r ≡ Lines.alone (now (line .entry)) item from at ⌝ }
 {
     let rest = runs::end(line, Run::Blanks, at);
     if runs::is_end(line, rest) {
@@ -74,30 +78,31 @@ struct Tag {
 fn tag_at(line: &[u8], at: usize) -> Tag
     requires { ⌜ at ≤ length (now line) ⌝ }
     ensures { λ r. ⌜ (at ≤ r .end) × (r .end ≤ length (now (line .entry))) ⌝ }
+    ensures is { λ r. ⌜ r ≡ Lines.tagAt (now (line .entry)) at ⌝ }
 {
-    if at < line.len() {
-        if line[at] == b'[' {
-            let close = runs::end(line, Run::Tag, at);
-            if close < line.len() {
-                return Tag {
-                    sound: true,
-                    end: close + 1,
-                };
-            }
-            return Tag {
-                sound: false,
-                end: close,
-            };
-        }
+    if !runs::is_at(line, at, b'[') {
+        return Tag {
+            sound: true,
+            end: at,
+        };
+    }
+    let close = runs::end(line, Run::Tag, at);
+    if close < line.len() {
+        return Tag {
+            sound: true,
+            end: close + 1,
+        };
     }
     Tag {
-        sound: true,
-        end: at,
+        sound: false,
+        end: close,
     }
 }
 
 // A tag decides what I and I_ERROR are, and they are refused without it.
-fn tag_verdict(name: Name, tag: &[u8]) -> Verdict {
+fn tag_verdict(name: Name, tag: &[u8]) -> Verdict
+    ensures { λ r. ⌜ r ≡ Lines.tagVerdict name (now (tag .entry)) ⌝ }
+{
     match name {
         Name::IError => {
             if check::same(tag, b"[loss]") {
@@ -121,12 +126,11 @@ fn tag_verdict(name: Name, tag: &[u8]) -> Verdict {
 fn opened(line: &[u8], times: u64, from: usize, at: usize) -> Line
     requires { ⌜ (from ≤ at) × (at ≤ length (now line)) ⌝ }
     ensures { λ r. ⌜ Read (now (line .entry)) r ⌝ }
+    ensures is { λ r. ⌜ r ≡ Lines.opened (now (line .entry)) times from at ⌝ }
 {
     let open = runs::end(line, Run::Blanks, at);
-    if open < line.len() {
-        if line[open] == b'{' {
-            return alone(line, Item::Repeat(times), from, open + 1);
-        }
+    if runs::is_at(line, open, b'{') {
+        return alone(line, Item::Repeat(times), from, open + 1);
     }
     bad_word(line, Fault::Open, open)
 }
@@ -135,21 +139,25 @@ fn opened(line: &[u8], times: u64, from: usize, at: usize) -> Line
 fn repeated(line: &[u8], from: usize, at: usize) -> Line
     requires { ⌜ (from ≤ at) × (at ≤ length (now line)) ⌝ }
     ensures { λ r. ⌜ Read (now (line .entry)) r ⌝ }
+    ensures is { λ r. ⌜ r ≡ Lines.repeated (now (line .entry)) from at ⌝ }
 {
     let digits = runs::end(line, Run::Blanks, at);
     let c = numbers::whole_at(line, digits);
     let whole = c.whole;
-    if let Whole::Is(times) = whole {
-        if 0 < times {
-            return opened(line, times, from, c.end);
-        }
+    let Whole::Is(times) = whole else {
+        return bad_word(line, Fault::Repeats, digits);
+    };
+    if times == 0 {
+        return bad_word(line, Fault::Repeats, digits);
     }
-    bad_word(line, Fault::Repeats, digits)
+    opened(line, times, from, c.end)
 }
 
 // ---- instructions
 
-fn is_tick(name: Name) -> bool {
+fn is_tick(name: Name) -> bool
+    ensures { λ r. ⌜ r ≡ Lines.isName name Name.Tick ⌝ }
+{
     match name {
         Name::Tick => true,
         _ => false,
@@ -159,6 +167,7 @@ fn is_tick(name: Name) -> bool {
 // TICK has no targets.
 fn targets_missing(line: &[u8], name: Name, at: usize) -> bool
     requires { ⌜ at ≤ length (now line) ⌝ }
+    ensures { λ r. ⌜ r ≡ Lines.targetsMissing (now (line .entry)) name at ⌝ }
 {
     if is_tick(name) {
         return runs::is_end(line, runs::end(line, Run::Blanks, at));
@@ -170,6 +179,7 @@ fn targets_missing(line: &[u8], name: Name, at: usize) -> bool
 fn called(line: &[u8], name: Name, from: usize, to: usize, rates: [f64; 15], at: usize) -> Line
     requires { ⌜ (from ≤ to) × (to ≤ length (now line)) × (at ≤ length (now line)) × (name ≡ Names.named (take (to - from) (drop from (now line)))) ⌝ }
     ensures { λ r. ⌜ Read (now (line .entry)) r ⌝ }
+    ensures is { λ r. ⌜ r ≡ Lines.called (now (line .entry)) name from to rates at ⌝ }
 {
     if !runs::is_word_end(line, at) {
         return bad_word(line, Fault::Blank, at);
@@ -190,6 +200,7 @@ fn called(line: &[u8], name: Name, from: usize, to: usize, rates: [f64; 15], at:
 fn with_arguments(line: &[u8], name: Name, from: usize, to: usize, at: usize) -> Line
     requires { ⌜ (from ≤ to) × (to ≤ at) × (at ≤ length (now line)) × (name ≡ Names.named (take (to - from) (drop from (now line)))) ⌝ }
     ensures { λ r. ⌜ Read (now (line .entry)) r ⌝ }
+    ensures is { λ r. ⌜ r ≡ Lines.withArguments (now (line .entry)) name from to at ⌝ }
 {
     let a = arguments::arguments_at(line, at);
     let verdict = a.verdict;
@@ -208,6 +219,7 @@ fn with_arguments(line: &[u8], name: Name, from: usize, to: usize, at: usize) ->
 fn with_tag(line: &[u8], name: Name, from: usize, to: usize) -> Line
     requires { ⌜ (from ≤ to) × (to ≤ length (now line)) × (name ≡ Names.named (take (to - from) (drop from (now line)))) ⌝ }
     ensures { λ r. ⌜ Read (now (line .entry)) r ⌝ }
+    ensures is { λ r. ⌜ r ≡ Lines.withTag (now (line .entry)) name from to ⌝ }
 {
     let t = tag_at(line, to);
     let at = t.end;
@@ -243,15 +255,14 @@ pub fn is_closing(line: &[u8]) -> bool {
 // What a line asks for, or what is wrong in it.
 pub fn parse(line: &[u8]) -> Line
     ensures { λ r. ⌜ Read (now (line .entry)) r ⌝ }
+    ensures is { λ r. ⌜ r ≡ Lines.lineOf (now (line .entry)) ⌝ }
 {
     let from = runs::end(line, Run::Blanks, 0);
     if runs::is_end(line, from) {
         return plain(Item::Nothing, from, from);
     }
-    if from < line.len() {
-        if line[from] == b'}' {
-            return alone(line, Item::Close, from, from + 1);
-        }
+    if runs::is_at(line, from, b'}') {
+        return alone(line, Item::Close, from, from + 1);
     }
     let to = runs::end(line, Run::Name, from);
     let name = names::named(&line[from..to]);

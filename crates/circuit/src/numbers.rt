@@ -1,8 +1,10 @@
 // The numbers of a line, as crates/decimal reads them.
 use crate::Fault;
 use crate::Verdict;
+ghost use mathlib.Core.Path.{_≡_};
 ghost use Prim.Native.Nat.{_≤_};
 ghost use lib.ListN.{length};
+ghost use Rattle.circuit.specs.Numbers.{verdictOf, numberAt, wholeOf, countAt};
 
 // A decimal number, and where it ends.
 pub struct Number {
@@ -26,7 +28,9 @@ pub struct Count {
     pub end: usize,
 }
 
-fn verdict_of(status: u64) -> Verdict {
+fn verdict_of(status: u64) -> Verdict
+    ensures { λ r. ⌜ r ≡ verdictOf status ⌝ }
+{
     if status == 0 {
         return Verdict::Sound;
     }
@@ -43,6 +47,7 @@ fn verdict_of(status: u64) -> Verdict {
 pub fn number_at(line: &[u8], from: usize) -> Number
     requires { ⌜ from ≤ length (now line) ⌝ }
     ensures { λ r. ⌜ (from ≤ r .end) × (r .end ≤ length (now (line .entry))) ⌝ }
+    ensures is { λ r. ⌜ r ≡ numberAt (now (line .entry)) from ⌝ }
 {
     let d = decimal::decimal(line, from);
     Number {
@@ -56,6 +61,7 @@ pub fn number_at(line: &[u8], from: usize) -> Number
 pub fn whole_at(line: &[u8], from: usize) -> Count
     requires { ⌜ from ≤ length (now line) ⌝ }
     ensures { λ r. ⌜ (from ≤ r .end) × (r .end ≤ length (now (line .entry))) ⌝ }
+    ensures is { λ r. ⌜ r ≡ countAt (now (line .entry)) from ⌝ }
 {
     let w = decimal::whole(line, from);
     Count {
@@ -64,7 +70,9 @@ pub fn whole_at(line: &[u8], from: usize) -> Count
     }
 }
 
-fn whole_of(status: u64, value: u64) -> Whole {
+fn whole_of(status: u64, value: u64) -> Whole
+    ensures { λ r. ⌜ r ≡ wholeOf status value ⌝ }
+{
     if status == 0 {
         return Whole::Is(value);
     }

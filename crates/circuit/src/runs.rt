@@ -1,6 +1,8 @@
 // Runs of bytes: blanks, names, words.
+ghost use mathlib.Core.Path.{_≡_};
 ghost use Prim.Native.Nat.{_≤_};
 ghost use lib.ListN.{length};
+ghost use Rattle.circuit.specs.Runs.{isBlank, endsWord, isBetween, isOfName, isOfArgument, isOf, runEnd, isEnd, isWordEnd, isAt};
 
 // What a run is of.
 pub enum Run {
@@ -16,7 +18,9 @@ pub enum Run {
     Tag,
 }
 
-pub fn is_blank(b: u8) -> bool {
+pub fn is_blank(b: u8) -> bool
+    ensures { λ r. ⌜ r ≡ isBlank b ⌝ }
+{
     if b == b' ' {
         return true;
     }
@@ -27,21 +31,27 @@ pub fn is_blank(b: u8) -> bool {
 }
 
 // A byte up to which a word goes.
-fn ends_word(b: u8) -> bool {
+fn ends_word(b: u8) -> bool
+    ensures { λ r. ⌜ r ≡ endsWord b ⌝ }
+{
     if b == b'#' {
         return true;
     }
     is_blank(b)
 }
 
-fn is_between(b: u8, low: u8, high: u8) -> bool {
+fn is_between(b: u8, low: u8, high: u8) -> bool
+    ensures { λ r. ⌜ r ≡ isBetween b low high ⌝ }
+{
     if b < low {
         return false;
     }
     b <= high
 }
 
-fn is_of_name(b: u8) -> bool {
+fn is_of_name(b: u8) -> bool
+    ensures { λ r. ⌜ r ≡ isOfName b ⌝ }
+{
     if is_between(b, b'A', b'Z') {
         return true;
     }
@@ -54,7 +64,9 @@ fn is_of_name(b: u8) -> bool {
     b == b'_'
 }
 
-fn is_of_argument(b: u8) -> bool {
+fn is_of_argument(b: u8) -> bool
+    ensures { λ r. ⌜ r ≡ isOfArgument b ⌝ }
+{
     if b == b',' {
         return false;
     }
@@ -64,7 +76,9 @@ fn is_of_argument(b: u8) -> bool {
     !ends_word(b)
 }
 
-fn is_of(run: Run, b: u8) -> bool {
+fn is_of(run: Run, b: u8) -> bool
+    ensures { λ r. ⌜ r ≡ isOf run b ⌝ }
+{
     match run {
         Run::Blanks => is_blank(b),
         Run::Name => is_of_name(b),
@@ -78,6 +92,7 @@ fn is_of(run: Run, b: u8) -> bool {
 pub fn end(line: &[u8], run: Run, at: usize) -> usize
     requires { ⌜ at ≤ length (now line) ⌝ }
     ensures { λ r. ⌜ (at ≤ r) × (r ≤ length (now (line .entry))) ⌝ }
+    ensures is { λ r. ⌜ r ≡ runEnd (isOf run) (now (line .entry)) at ⌝ }
 {
     let mut i = at;
     while i < line.len() {
@@ -90,7 +105,9 @@ pub fn end(line: &[u8], run: Run, at: usize) -> usize
 }
 
 // Whether the byte at a place is this one.
-pub fn is_at(line: &[u8], at: usize, b: u8) -> bool {
+pub fn is_at(line: &[u8], at: usize, b: u8) -> bool
+    ensures { λ r. ⌜ r ≡ isAt (now (line .entry)) at b ⌝ }
+{
     if at < line.len() {
         return line[at] == b;
     }
@@ -98,7 +115,9 @@ pub fn is_at(line: &[u8], at: usize, b: u8) -> bool {
 }
 
 // Nothing, or a comment, stands at a place.
-pub fn is_end(line: &[u8], at: usize) -> bool {
+pub fn is_end(line: &[u8], at: usize) -> bool
+    ensures { λ r. ⌜ r ≡ isEnd (now (line .entry)) at ⌝ }
+{
     if at < line.len() {
         return line[at] == b'#';
     }
@@ -106,7 +125,9 @@ pub fn is_end(line: &[u8], at: usize) -> bool {
 }
 
 // .. or a blank.
-pub fn is_word_end(line: &[u8], at: usize) -> bool {
+pub fn is_word_end(line: &[u8], at: usize) -> bool
+    ensures { λ r. ⌜ r ≡ isWordEnd (now (line .entry)) at ⌝ }
+{
     if at < line.len() {
         return ends_word(line[at]);
     }

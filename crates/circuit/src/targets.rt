@@ -12,9 +12,10 @@ ghost use mathlib.Core.Path.{_≡_};
 ghost use Prim.Native.Nat.{_≤_, _<_};
 ghost use lib.ListN.{length};
 ghost use Rattle.circuit.specs.Places.{Stepped, Onward};
+ghost use Rattle.circuit.specs.Targets as Targets;
 
 fn bad(fault: Fault, from: usize, to: usize) -> Target
-    ensures { λ r. ⌜ (r .seen ≡ Seen.Bad fault) × (r .from ≡ from) × (r .to ≡ to) ⌝ }
+    ensures { λ r. ⌜ r ≡ Targets.bad fault from to ⌝ }
 {
     Target {
         seen: Seen::Bad(fault),
@@ -25,8 +26,7 @@ fn bad(fault: Fault, from: usize, to: usize) -> Target
 
 // The qubit of a number, if there is one.
 fn qubit_of(v: u64, from: usize, to: usize) -> Target
-    requires { ⌜ from < to ⌝ }
-    ensures { λ r. ⌜ Stepped to from r ⌝ }
+    ensures { λ r. ⌜ r ≡ Targets.qubitOf (Whole.Is v) from to ⌝ }
 {
     if 64 <= v {
         return bad(Fault::Range, from, to);
@@ -42,7 +42,7 @@ fn qubit_of(v: u64, from: usize, to: usize) -> Target
 // The qubit at a place, where there is something.
 fn qubit_at(line: &[u8], from: usize) -> Target
     requires { ⌜ from ≤ length (now line) ⌝ }
-    ensures { λ r. ⌜ Stepped (length (now (line .entry))) from r ⌝ }
+    ensures { λ r. ⌜ r ≡ Targets.qubitAt (now (line .entry)) from ⌝ }
 {
     let word = runs::end(line, Run::Word, from);
     let c = numbers::whole_at(line, from);
@@ -63,7 +63,7 @@ fn qubit_at(line: &[u8], from: usize) -> Target
 // The next qubit.
 fn next_qubit(line: &[u8], at: usize) -> Target
     requires { ⌜ at ≤ length (now line) ⌝ }
-    ensures { λ r. ⌜ Stepped (length (now (line .entry))) at r ⌝ }
+    ensures { λ r. ⌜ r ≡ Targets.nextQubit (now (line .entry)) at ⌝ }
 {
     let from = runs::end(line, Run::Blanks, at);
     if runs::is_end(line, from) {
@@ -78,8 +78,8 @@ fn next_qubit(line: &[u8], at: usize) -> Target
 
 // The second qubit of a pair.
 fn second(line: &[u8], p: usize, from: usize, at: usize) -> Target
-    requires { ⌜ (p < 64) × (from < at) × (at ≤ length (now line)) ⌝ }
-    ensures { λ r. ⌜ Stepped (length (now (line .entry))) from r ⌝ }
+    requires { ⌜ at ≤ length (now line) ⌝ }
+    ensures { λ r. ⌜ r ≡ Targets.secondAt (now (line .entry)) p from at ⌝ }
 {
     let b = next_qubit(line, at);
     let seen = b.seen;
@@ -93,8 +93,7 @@ fn second(line: &[u8], p: usize, from: usize, at: usize) -> Target
 
 // Two qubits, if they differ.
 fn pair_of(p: usize, q: usize, from: usize, to: usize) -> Target
-    requires { ⌜ (p < 64) × (q < 64) × (from < to) ⌝ }
-    ensures { λ r. ⌜ Stepped to from r ⌝ }
+    ensures { λ r. ⌜ r ≡ Targets.pairOf p q from to ⌝ }
 {
     if p == q {
         return bad(Fault::Same, from, to);
@@ -109,7 +108,7 @@ fn pair_of(p: usize, q: usize, from: usize, to: usize) -> Target
 // The next pair.
 fn next_pair(line: &[u8], at: usize) -> Target
     requires { ⌜ at ≤ length (now line) ⌝ }
-    ensures { λ r. ⌜ Stepped (length (now (line .entry))) at r ⌝ }
+    ensures { λ r. ⌜ r ≡ Targets.nextPair (now (line .entry)) at ⌝ }
 {
     let a = next_qubit(line, at);
     let seen = a.seen;
@@ -123,6 +122,7 @@ fn next_pair(line: &[u8], at: usize) -> Target
 fn next(line: &[u8], at: usize, pairs: bool) -> Target
     requires { ⌜ at ≤ length (now line) ⌝ }
     ensures { λ r. ⌜ Stepped (length (now (line .entry))) at r ⌝ }
+    ensures is { λ r. ⌜ r ≡ Targets.targetAt pairs (now (line .entry)) at ⌝ }
 {
     if pairs {
         return next_pair(line, at);
@@ -133,6 +133,7 @@ fn next(line: &[u8], at: usize, pairs: bool) -> Target
 // What the next call is on, from a place on: a qubit, as both of `At`, or a pair; and from where to where it stands.
 pub fn target(line: &[u8], at: usize, pairs: bool) -> Target
     ensures { λ r. ⌜ Onward (length (now (line .entry))) at r ⌝ }
+    ensures is { λ r. ⌜ r ≡ Targets.targetAt pairs (now (line .entry)) at ⌝ }
 {
     if at <= line.len() {
         return next(line, at, pairs);

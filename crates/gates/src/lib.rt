@@ -2,6 +2,7 @@
 mod call;
 
 pub use call::gate;
+pub use call::gate_known;
 use model::Gate;
 use model::Size;
 ghost use mathlib.Core.Path.{_≡_};

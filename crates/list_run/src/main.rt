@@ -1,36 +1,27 @@
 // A list of at most 64 calls from standard input, run from a fresh sum on (runs::run_fresh), and again from the sheet that its last call
-// wrote (runs::run_sheet). For each run a line of its number, the header's count and flag, and the digest of the store without keys; then
-// a line for each call: its kind, the record's seven numbers, the digest of its record, a view's without keys, and that of its stretch
-// of text. differential/list_run.py makes the list, and works out what is to come out from entries that have no keys.
+// wrote (runs::run_sheet). For each run a line of its number, how many calls were made, the header's count and flag, and the digest of the
+// store without keys; then a line for each call: its kind, the record's numbers, the digest of its record, a view's without keys, and that
+// of its stretch of text. differential/list_run.py makes the list, and works out what is to come out from entries that have no keys.
 use libc::STDIN_FILENO;
-use model::Header;
 use model::Size;
+use runs::Ran;
+use runs::Room;
+use test_support::CALL_WORDS;
+use test_support::LIST_WORDS;
+use test_support::LOG_WORDS;
+use test_support::MOST_CALLS;
+use test_support::NUMBER_WORDS;
+use test_support::RECORD_WORDS;
+use test_support::SHOWN_WORDS;
 
-// The calls from a place on; how many there are is the answer.
-fn read_calls(given: &[u8], from: usize, calls: &mut [u64]) -> usize {
-    let mut at = from;
-    let mut i: usize = 0;
-    while i < 64 {
-        at = test_support::skip(given, at);
-        if given.len() <= at {
-            return i;
-        }
-        at = read_call(given, at, calls, 18 * i);
-        i += 1;
-    }
-    i
-}
+// What each call has room for.
+const BYTES: usize = 32_768;
 
-// The call at a place of the text, into the words from `start` on.
-fn read_call(given: &[u8], at: usize, calls: &mut [u64], start: usize) -> usize {
-    if calls.len() < 18 {
-        return at;
+fn room() -> Room {
+    Room {
+        shown: SHOWN_WORDS,
+        bytes: BYTES,
     }
-    if calls.len() - 18 < start {
-        return at;
-    }
-    let end = start + 18;
-    test_support::read_item(given, at, &mut calls[start..end])
 }
 
 // Word j of an entry, 0 for a key.
@@ -66,10 +57,12 @@ fn clear_keys(words: &mut [u64], len: usize) {
     }
 }
 
-fn tell_sum(number: u64, h: Header, store: &mut [u64], len: usize) {
+fn tell_sum(ran: Ran, store: &mut [u64], len: usize) {
+    let h = ran.header;
     clear_keys(store, len);
     test_support::text(b"gives");
-    test_support::number(number);
+    test_support::number(ran.number);
+    test_support::number(ran.made as u64);
     test_support::text(b", count");
     test_support::number(h.count as u64);
     test_support::text(b", flag");
@@ -82,7 +75,7 @@ fn tell_sum(number: u64, h: Header, store: &mut [u64], len: usize) {
 fn tell_record(kind: u64, record: &[u64], text: &[u8]) {
     test_support::number(kind);
     test_support::text(b":");
-    test_support::numbers(record, 0, 7);
+    test_support::numbers(record, 0, NUMBER_WORDS);
     test_support::text(b", record");
     test_support::number(test_support::digest(record));
     test_support::text(b", text");
@@ -92,13 +85,13 @@ fn tell_record(kind: u64, record: &[u64], text: &[u8]) {
 
 // Record i; if it is a view's, its keys put to 0.
 fn hide_keys(calls: &[u64], log: &mut [u64], i: usize) {
-    if 64 <= i {
+    if MOST_CALLS <= i {
         return;
     }
-    if test_support::word_at(calls, 18 * i) != 14 {
+    if test_support::word_at(calls, CALL_WORDS * i) != 14 {
         return;
     }
-    let from = 588 * i + 9;
+    let from = RECORD_WORDS * i + NUMBER_WORDS + 2;
     let to = from + 2;
     if to <= log.len() {
         test_support::fill_words(&mut log[from..to], 0);
@@ -115,13 +108,13 @@ fn hide_all_keys(calls: &[u64], log: &mut [u64], count: usize) {
 
 // Call i of the list, with its record and its stretch of text.
 fn tell_call(calls: &[u64], log: &[u64], text: &[u8], i: usize) {
-    if 64 <= i {
+    if MOST_CALLS <= i {
         return;
     }
-    let from = 588 * i;
-    let to = from + 588;
-    let at = 32_768 * i;
-    let end = at + 32_768;
+    let from = RECORD_WORDS * i;
+    let to = from + RECORD_WORDS;
+    let at = BYTES * i;
+    let end = at + BYTES;
     if log.len() < to {
         return;
     }
@@ -129,7 +122,7 @@ fn tell_call(calls: &[u64], log: &[u64], text: &[u8], i: usize) {
         return;
     }
     tell_record(
-        test_support::word_at(calls, 18 * i),
+        test_support::word_at(calls, CALL_WORDS * i),
         &log[from..to],
         &text[at..end],
     );
@@ -148,12 +141,12 @@ fn keep_sheet(log: &[u64], text: &[u8], count: usize, sheet: &mut [u8]) -> usize
     if count == 0 {
         return 0;
     }
-    if 64 < count {
+    if MOST_CALLS < count {
         return 0;
     }
     let last = count - 1;
-    let length = test_support::word_at(log, 588 * last + 6) as usize;
-    test_support::keep_bytes(sheet, text, 32_768 * last, length);
+    let length = test_support::word_at(log, RECORD_WORDS * last + 6) as usize;
+    test_support::keep_bytes(sheet, text, BYTES * last, length);
     length
 }
 
@@ -166,20 +159,22 @@ fn size_in(start: [u64; 18]) -> Size {
 }
 
 fn tell_run(calls: &[u64], log: &mut [u64], text: &[u8]) {
-    let count = calls.len() / 18;
+    let count = calls.len() / CALL_WORDS;
     hide_all_keys(calls, log, count);
     tell_calls(calls, log, text, count);
 }
 
 // Room for the text of every call.
-fn text_room() -> [u8; 2_097_152] {
-    [120u8; 2_097_152]
+const TEXT: usize = BYTES * MOST_CALLS;
+
+fn text_room() -> [u8; TEXT] {
+    [120u8; TEXT]
 }
 
 // From a fresh sum on. Its last sheet goes into `sheet`; how many bytes it has is the answer.
 fn from_fresh(start: [u64; 18], calls: &[u64], sheet: &mut [u8]) -> usize {
     let mut store = [7u64; 2460];
-    let mut log = [7u64; 37_632];
+    let mut log = [7u64; LOG_WORDS];
     let mut text = text_room();
     let size = size_in(start);
     let threshold = words::float_of(start[4]);
@@ -192,39 +187,40 @@ fn from_fresh(start: [u64; 18], calls: &[u64], sheet: &mut [u8]) -> usize {
         calls,
         &mut log,
         &mut text,
-        32_768,
+        room(),
     );
-    tell_sum(ran.number, ran.header, &mut store, start[6] as usize);
+    tell_sum(ran, &mut store, start[6] as usize);
     tell_run(calls, &mut log, &text);
-    keep_sheet(&log, &text, calls.len() / 18, sheet)
+    keep_sheet(&log, &text, calls.len() / CALL_WORDS, sheet)
 }
 
 // From a sheet on.
 fn from_sheet(start: [u64; 18], calls: &[u64], sheet: &[u8]) {
     let mut store = [7u64; 2460];
-    let mut log = [7u64; 37_632];
+    let mut log = [7u64; LOG_WORDS];
     let mut text = text_room();
-    let ran = runs::run_sheet(sheet, &mut store, calls, &mut log, &mut text, 32_768);
-    tell_sum(ran.number, ran.header, &mut store, start[6] as usize);
+    let ran = runs::run_sheet(sheet, &mut store, calls, &mut log, &mut text, room());
+    tell_sum(ran, &mut store, start[6] as usize);
     tell_run(calls, &mut log, &text);
 }
 
 // Both runs, in stores of 2460 words that hold sevens.
 fn run_both(start: [u64; 18], calls: &[u64]) {
-    let mut sheet = [0u8; 32_768];
+    let mut sheet = [0u8; BYTES];
     let length = from_fresh(start, calls, &mut sheet);
-    if length <= 32_768 {
+    if length <= BYTES {
         from_sheet(start, calls, &sheet[0..length]);
     }
 }
 
 fn run_given(given: &[u8]) {
     let mut start = [0u64; 18];
-    let mut calls = [0u64; 1152];
+    let mut calls = [0u64; LIST_WORDS];
     let at = test_support::read_item(given, 0, &mut start);
-    let count = read_calls(given, at, &mut calls);
-    if count <= 64 {
-        let end = 18 * count;
+    let count = start[7] as usize;
+    test_support::read_calls(given, at, count, &mut calls);
+    if count <= MOST_CALLS {
+        let end = CALL_WORDS * count;
         run_both(start, &calls[0..end]);
     }
 }

@@ -12,10 +12,11 @@ use lib.Seq.{drop-set-lt, getD-take, getD-drop}
 use Rattle.model.specs.Lists.{altered}
 use Rattle.model.specs.Floats.{float, bits, plus}
 use Rattle.model.specs.Entries.{Keyed, headLen, coefsLen, entryLen, entryOf, stretch, listed, withStretch}
-use Rattle.model.specs.Store.{Weighed, Holding, Tally, begun, keyedWeighed, weightOf, reweighed, gained, stored-or-dropped, settled, merge, aboveCutoff}
+use Rattle.model.specs.Store.{Weighed, Holding, Tally, noLoss, withDropped, begun, keyedWeighed, weightOf, reweighed, gained, stored-or-dropped, settled, merge, aboveCutoff}
 use Rattle.model.specs.declared.Size.{Size}
 use Rattle.model.specs.declared.Found.{Found}
 use Rattle.model.specs.declared.Found.the-variants.{At, Nothing}
+use Rattle.model.specs.declared.Lost.{Lost}
 use Rattle.model.proofs.Entries.{length-stretch, length-listed, listed-at}
 use Rattle.model.specs.Sound.{Packed}
 use Rattle.model.proofs.Packed.{within, set-listed, set-packed, more-listed, more-packed}
@@ -32,23 +33,35 @@ never z = absurd (omega arith)
 
 -- ---- on any tally
 
--- the tally u of a branch, added to what t counted before
-abbrev pub added : {X : Type 0} → Tally X → Tally X → Tally X
-added t u = record { entries = u .entries; merged = t .merged + u .merged; stored = t .stored + u .stored; dropped = t .dropped + u .dropped }
+-- what is lost once so many branches more of weight w were dropped: one or none
+abbrev pub lostMore : ℕ → (w : ℕ) → Lost → Lost
+lostMore zero w l = l
+lostMore (suc n) w l = withDropped l w
+
+-- the tally u of a branch of weight w, added to what t counted before
+abbrev pub added : {X : Type 0} → (w : ℕ) → Tally X → Tally X → Tally X
+added w t u =
+    record {
+      entries = u .entries;
+      merged = t .merged + u .merged;
+      stored = t .stored + u .stored;
+      dropped = t .dropped + u .dropped;
+      lost = lostMore (u .dropped) w (t .lost);
+    }
 
 module _ {X : Type 0} (W : Weighed X) (b : X) (t : Tally X) where
-  stored-adds : (a : Bool) → stored-or-dropped W b t a ≡ added t (stored-or-dropped W b (begun (t .entries)) a)
+  stored-adds : (a : Bool) → stored-or-dropped W b t a ≡ added (weightOf W b) t (stored-or-dropped W b (begun (t .entries)) a)
   unfolding stored-or-dropped
   stored-adds true = simp (add-one, add-zero)
   stored-adds false = simp (add-one, add-zero)
 
-  settled-adds : (admit : ℕ → Bool) (f : Found) → settled W admit b t f ≡ added t (settled W admit b (begun (t .entries)) f)
+  settled-adds : (admit : ℕ → Bool) (f : Found) → settled W admit b t f ≡ added (weightOf W b) t (settled W admit b (begun (t .entries)) f)
   unfolding settled
   settled-adds admit (At i) = simp (add-one, add-zero)
   settled-adds admit Nothing = stored-adds (admit (weightOf W b))
 
 -- merging a branch adds to the counts
-pub merge-adds : {X : Type 0} (H : Holding X) (admit : ℕ → Bool) (b : X) (t : Tally X) → merge H admit b t ≡ added t (merge H admit b (begun (t .entries)))
+pub merge-adds : {X : Type 0} (H : Holding X) (admit : ℕ → Bool) (b : X) (t : Tally X) → merge H admit b t ≡ added (weightOf (H .weighed) b) t (merge H admit b (begun (t .entries)))
 unfolding merge
 merge-adds H admit b t = settled-adds (H .weighed) b t admit (H .find b (t .entries))
 
@@ -100,7 +113,7 @@ module _ (s : Size) (count : ℕ) (cutoff : Float) (bw w : List ℕ) (p : Packed
   merged i l v g =
       record {
         packed = rw add-zero at (set-packed s count w p i l 0 v (omega arith));
-        tally = ap (λ (es : List Keyed). record { entries = es; merged = 1; stored = 0; dropped = 0 }) (gained-listed i l v g);
+        tally = ap (λ (es : List Keyed). record { entries = es; merged = 1; stored = 0; dropped = 0; lost = noLoss }) (gained-listed i l v g);
         unchanged = λ z. never (cc);
         full = λ z. never (cc);
       }
@@ -111,7 +124,7 @@ module _ (s : Size) (count : ℕ) (cutoff : Float) (bw w : List ℕ) (p : Packed
   stored q a l =
       record {
         packed = more-packed s count w p l bw q;
-        tally = rw a (ap (λ (es : List Keyed). record { entries = es; merged = 0; stored = 1; dropped = 0 }) (sym (more-listed s count w p l bw q)));
+        tally = rw a (ap (λ (es : List Keyed). record { entries = es; merged = 0; stored = 1; dropped = 0; lost = noLoss }) (sym (more-listed s count w p l bw q)));
         unchanged = λ z. never (cc);
         full = λ z. never (cc);
       }

@@ -10,7 +10,7 @@ use lib.ListN.{length, take, length-append}
 use lib.Seq.{take-all, take-take}
 use Rattle.model.specs.Entries.{Keyed, listed}
 use Rattle.model.specs.Keys.{usualSalts}
-use Rattle.model.specs.Store.{Tally, keyedWeighed, reweighed, merge, mergeAll, testedAll, howMany, aboveCutoff}
+use Rattle.model.specs.Store.{Tally, keyedWeighed, weightOf, reweighed, merge, mergeAll, testedAll, howMany, aboveCutoff}
 use Rattle.model.specs.Calls.{engine}
 use Rattle.model.specs.declared.Size.{Size}
 use Rattle.model.proofs.Entries.{length-listed}
@@ -34,12 +34,12 @@ pub all-there : (s : Size) (count : ℕ) (w : List ℕ) → take count (listed s
 all-there s count w = take-all count (listed s count w) (omega (arith, length-listed s count w))
 
 -- the entries listed after a branch's fate
-pub count-after : (f : Fate) (p : Progress) (k : ℕ) → after f p k .count ≡ countBy f (p .count)
+pub count-after : (f : Fate) (p : Progress) (k w : ℕ) → after f p k w .count ≡ countBy f (p .count)
 unfolding after countBy
-count-after Merged p k = refl
-count-after Stored p k = refl
-count-after Dropped p k = refl
-count-after NoRoom p k = refl
+count-after Merged p k w = refl
+count-after Stored p k w = refl
+count-after Dropped p k w = refl
+count-after NoRoom p k w = refl
 
 module _ (s : Size) (threshold cutoff : Float) where
   -- ---- one branch
@@ -50,8 +50,8 @@ module _ (s : Size) (threshold cutoff : Float) where
     before = tallyOf s p w
 
     -- what one merge makes of the tally so far
-    tally-is : merge (engine s threshold) (aboveCutoff cutoff) b before ≡ added before (tallyBy (r .fate) b (listed s (countBy (r .fate) (p .count)) w'))
-    tally-is = merge-adds (engine s threshold) (aboveCutoff cutoff) b before ∙ ap (added before) (m .tally)
+    tally-is : merge (engine s threshold) (aboveCutoff cutoff) b before ≡ added (weightOf keyedWeighed b) before (tallyBy (r .fate) b (listed s (countBy (r .fate) (p .count)) w'))
+    tally-is = merge-adds (engine s threshold) (aboveCutoff cutoff) b before ∙ ap (added (weightOf keyedWeighed b) before) (m .tally)
 
     pub few-tested : r .compared ≤ 256
     few-tested = omega (arith, m .tested, tested-few s threshold b 0 (listed s (p .count) w), length-listed s (p .count) w, g .room, g .sized .capacity .high)
@@ -82,11 +82,11 @@ module _ (s : Size) (threshold cutoff : Float) where
         }
 
     -- by its fate
-    pub one-branch : (f : Fate) → r .fate ≡ f → Went s threshold cutoff (b ∷ []) p w (after f p (r .compared)) w'
+    pub one-branch : (f : Fate) → r .fate ≡ f → Went s threshold cutoff (b ∷ []) p w (after f p (r .compared) (weightOf keyedWeighed b)) w'
     unfolding after countBy tallyBy mergeAll
-    one-branch Merged e = settles (after Merged p (r .compared)) (rw e at (m .packed)) o refl (omega arith) ((rw e at tally-is) ∙ simp add-zero)
-    one-branch Stored e = settles (after Stored p (r .compared)) (rw e at (m .packed)) o refl (omega arith) ((rw e at tally-is) ∙ simp add-zero)
-    one-branch Dropped e = settles (after Dropped p (r .compared)) (rw e at (m .packed)) o refl (omega arith) ((rw e at tally-is) ∙ simp add-zero)
+    one-branch Merged e = settles (after Merged p (r .compared) (weightOf keyedWeighed b)) (rw e at (m .packed)) o refl (omega arith) ((rw e at tally-is) ∙ simp add-zero)
+    one-branch Stored e = settles (after Stored p (r .compared) (weightOf keyedWeighed b)) (rw e at (m .packed)) o refl (omega arith) ((rw e at tally-is) ∙ simp add-zero)
+    one-branch Dropped e = settles (after Dropped p (r .compared) (weightOf keyedWeighed b)) (rw e at (m .packed)) o refl (omega arith) ((rw e at tally-is) ∙ simp add-zero)
     one-branch NoRoom e =
         record {
           packed = rw e at (m .packed);

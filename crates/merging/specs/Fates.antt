@@ -5,7 +5,7 @@ use mathlib.Core.List.{List, [], _∷_, _++_}
 use lib.Ieee.{Float}
 use lib.ListN.{length}
 use Rattle.model.specs.Entries.{Keyed, listed}
-use Rattle.model.specs.Store.{Tally, keyedWeighed, begun, walk, settled, merge, aboveCutoff}
+use Rattle.model.specs.Store.{Tally, noLoss, withDropped, keyedWeighed, weightOf, begun, walk, settled, merge, aboveCutoff}
 use Rattle.model.specs.Calls.{engine}
 use Rattle.model.specs.declared.Found.{Found}
 use Rattle.model.specs.declared.Size.{Size}
@@ -23,10 +23,10 @@ countBy NoRoom count = count
 
 -- the tally of the branch b, when es is listed: for want of room the branch is not in the list
 unfoldable pub tallyBy : Fate → Keyed → List Keyed → Tally Keyed
-tallyBy Merged b es = record { entries = es; merged = 1; stored = 0; dropped = 0 }
-tallyBy Stored b es = record { entries = es; merged = 0; stored = 1; dropped = 0 }
-tallyBy Dropped b es = record { entries = es; merged = 0; stored = 0; dropped = 1 }
-tallyBy NoRoom b es = record { entries = es ++ b ∷ []; merged = 0; stored = 1; dropped = 0 }
+tallyBy Merged b es = record { entries = es; merged = 1; stored = 0; dropped = 0; lost = noLoss }
+tallyBy Stored b es = record { entries = es; merged = 0; stored = 1; dropped = 0; lost = noLoss }
+tallyBy Dropped b es = record { entries = es; merged = 0; stored = 0; dropped = 1; lost = withDropped noLoss (weightOf keyedWeighed b) }
+tallyBy NoRoom b es = record { entries = es ++ b ∷ []; merged = 0; stored = 1; dropped = 0; lost = noLoss }
 
 -- the branch b, which a search found so, was settled among the `count` entries that w holds, which left w'
 pub record SettledBy (s : Size) (count : ℕ) (cutoff : Float) (b : Keyed) (f : Found) (w w' : List ℕ) (fate : Fate) : Type 0 where

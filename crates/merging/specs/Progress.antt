@@ -8,11 +8,13 @@ use lib.ListN.{length, take}
 use Rattle.model.specs.Entries.{Keyed, entryLen, wordsOf, entryOf, stretch, listed, withStretch}
 use Rattle.model.specs.Keys.{usualSalts}
 use Rattle.model.specs.Qubits.{QubitsBelow}
+use Rattle.model.specs.Floats.{float, zeroBits, plus}
 use Rattle.model.specs.Store.{Tally, keyedWeighed, reweighed, mergeAll, testedAll, howMany, aboveCutoff}
 use Rattle.model.specs.Calls.{engine, headerWith, answerOf}
 use Rattle.model.specs.declared.BranchMutation.{BranchMutation}
 use Rattle.model.specs.declared.Answer.{Answer}
 use Rattle.model.specs.declared.Header.{Header}
+use Rattle.model.specs.declared.Lost.{Lost}
 use Rattle.model.specs.declared.Size.{Size}
 use Rattle.model.specs.Sound.{Packed}
 use Rattle.changes.specs.Changes.{changeOf}
@@ -45,9 +47,17 @@ appended s count b w = withStretch (entryLen s) count w (wordsOf (branchIn s w b
 
 -- ---- branches merged, one after the other
 
+-- what was lost with them, and what truncating takes afterwards
+abbrev pub lostBy : Progress → Float → Lost
+lostBy p truncated = record { dropped = p .lost; truncated = truncated }
+
+-- these entries, and what became of the branches
+abbrev pub talliedBy : Progress → List Keyed → Tally Keyed
+talliedBy p es = record { entries = es; merged = p .merged; stored = p .stored; dropped = p .dropped; lost = lostBy p (float zeroBits) }
+
 -- the list so far, and what became of the branches
 abbrev pub tallyOf : Size → Progress → List ℕ → Tally Keyed
-tallyOf s p w = record { entries = listed s (p .count) w; merged = p .merged; stored = p .stored; dropped = p .dropped }
+tallyOf s p w = talliedBy p (listed s (p .count) w)
 
 -- an entry with its weight set aside
 abbrev pub unweighed : Keyed → Keyed
@@ -74,22 +84,43 @@ pub record Went (s : Size) (threshold cutoff : Float) (bs : List Keyed) (p : Pro
   pub tested : p' .compared ≤ p .compared + 256 * length bs
 
 -- so many branches more of each fate: one that is stored is listed
-abbrev pub withMore : Progress → (merged stored dropped compared : ℕ) → (full : Bool) → Progress
-withMore p m s d k f =
-    record { count = p .count + s; merged = p .merged + m; stored = p .stored + s; dropped = p .dropped + d; compared = p .compared + k; full = f }
+abbrev pub withMore : Progress → (merged stored dropped compared : ℕ) → (lost : Float) → (full : Bool) → Progress
+withMore p m s d k l f =
+    record {
+      count = p .count + s;
+      merged = p .merged + m;
+      stored = p .stored + s;
+      dropped = p .dropped + d;
+      compared = p .compared + k;
+      lost = l;
+      full = f;
+    }
 
--- one branch more, which had this fate after k full comparisons
-unfoldable pub after : Fate → Progress → ℕ → Progress
-after Merged p k = record { count = p .count; merged = p .merged + 1; stored = p .stored; dropped = p .dropped; compared = p .compared + k; full = p .full }
-after Stored p k = record { count = p .count + 1; merged = p .merged; stored = p .stored + 1; dropped = p .dropped; compared = p .compared + k; full = p .full }
-after Dropped p k = record { count = p .count; merged = p .merged; stored = p .stored; dropped = p .dropped + 1; compared = p .compared + k; full = p .full }
-after NoRoom p k = record { count = p .count; merged = p .merged; stored = p .stored; dropped = p .dropped; compared = p .compared + k; full = true }
+-- one branch more, of weight w, which had this fate after k full comparisons
+unfoldable pub after : Fate → Progress → ℕ → ℕ → Progress
+after Merged p k w =
+    record { count = p .count; merged = p .merged + 1; stored = p .stored; dropped = p .dropped; compared = p .compared + k; lost = p .lost; full = p .full }
+after Stored p k w =
+    record { count = p .count + 1; merged = p .merged; stored = p .stored + 1; dropped = p .dropped; compared = p .compared + k; lost = p .lost; full = p .full }
+after Dropped p k w =
+    record {
+      count = p .count;
+      merged = p .merged;
+      stored = p .stored;
+      dropped = p .dropped + 1;
+      compared = p .compared + k;
+      lost = plus (p .lost) (float w);
+      full = p .full;
+    }
+after NoRoom p k w =
+    record { count = p .count; merged = p .merged; stored = p .stored; dropped = p .dropped; compared = p .compared + k; lost = p .lost; full = true }
 
 -- no branch is merged yet
 abbrev pub started : ℕ → Progress
-started count = record { count = count; merged = 0; stored = 0; dropped = 0; compared = 0; full = false }
+started count = record { count = count; merged = 0; stored = 0; dropped = 0; compared = 0; lost = float zeroBits; full = false }
 
--- what a call answers that lists `count` entries, once its branches became what p counts
-abbrev pub answered : Header → (count : ℕ) → Progress → Answer
-answered h count p =
-    answerOf 0 (headerWith h count false) (record { merged = p .merged; stored = p .stored; dropped = p .dropped; compared = p .compared }) 0 0
+-- what a call answers that lists `count` entries, once its branches became what p counts and truncating took so much
+abbrev pub answered : Header → (count : ℕ) → Progress → Float → Answer
+answered h count p truncated =
+    answerOf 0 (headerWith h count false) (record { merged = p .merged; stored = p .stored; dropped = p .dropped; compared = p .compared })
+    (lostBy p truncated) 0 0

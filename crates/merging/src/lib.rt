@@ -5,6 +5,7 @@ use model::Answer;
 use model::Counts;
 use model::Found;
 use model::Header;
+use model::Lost;
 use model::Size;
 use seeking::Search;
 use seeking::Sought;
@@ -52,13 +53,15 @@ pub struct Settled {
     pub compared: usize,
 }
 
-// How far merging has come: the entries listed, what became of the branches, and whether one found no room.
+// How far merging has come: the entries listed, what became of the branches, the weight of those that were dropped, added in order from 0,
+// and whether one found no room.
 pub struct Progress {
     pub count: usize,
     pub merged: usize,
     pub stored: usize,
     pub dropped: usize,
     pub compared: usize,
+    pub lost: f64,
     pub full: bool,
 }
 
@@ -74,21 +77,23 @@ pub fn start(count: usize) -> Progress
         stored: 0,
         dropped: 0,
         compared: 0,
+        lost: 0.0,
         full: false,
     }
 }
 
-// With so many branches more of each fate; one that is stored is listed.
+// With so many branches more of each fate; one that is stored is listed. `lost` is what is lost now.
 fn with_more(
     p: Progress,
     merged: usize,
     stored: usize,
     dropped: usize,
     compared: usize,
+    lost: f64,
     full: bool,
 ) -> Progress
     requires { ⌜ Light 65536 p × (p .count ≤ 256) × (merged ≤ 1) × (stored ≤ 1) × (dropped ≤ 1) × (compared ≤ 256) ⌝ }
-    ensures { λ r. ⌜ r ≡ withMore p merged stored dropped compared full ⌝ }
+    ensures { λ r. ⌜ r ≡ withMore p merged stored dropped compared lost full ⌝ }
 {
     Progress {
         count: p.count + stored,
@@ -96,22 +101,26 @@ fn with_more(
         stored: p.stored + stored,
         dropped: p.dropped + dropped,
         compared: p.compared + compared,
+        lost,
         full,
     }
 }
 
-// With one branch more settled. (A Progress whose fields are written one by one is slower: it goes through memory for every branch.)
-pub fn counted(p: Progress, settled: Settled) -> Progress
+// With one branch more settled, of this weight. (A Progress whose fields are written one by one is slower: it goes through memory for every branch.)
+pub fn counted(p: Progress, settled: Settled, weight: u64) -> Progress
     requires { ⌜ Light 65536 p × (settled .compared ≤ 256) × (p .count ≤ 256) ⌝ }
-    ensures { λ r. ⌜ r ≡ after (settled .fate) p (settled .compared) ⌝ }
+    ensures { λ r. ⌜ r ≡ after (settled .fate) p (settled .compared) weight ⌝ }
 {
     let fate = settled.fate;
     let compared = settled.compared;
     match fate {
-        Fate::Merged => with_more(p, 1, 0, 0, compared, p.full),
-        Fate::Stored => with_more(p, 0, 1, 0, compared, p.full),
-        Fate::Dropped => with_more(p, 0, 0, 1, compared, p.full),
-        Fate::NoRoom => with_more(p, 0, 0, 0, compared, true),
+        Fate::Merged => with_more(p, 1, 0, 0, compared, p.lost, p.full),
+        Fate::Stored => with_more(p, 0, 1, 0, compared, p.lost, p.full),
+        Fate::Dropped => {
+            let lost = p.lost + words::float_of(weight);
+            with_more(p, 0, 0, 1, compared, lost, p.full)
+        }
+        Fate::NoRoom => with_more(p, 0, 0, 0, compared, p.lost, true),
     }
 }
 
@@ -257,14 +266,14 @@ pub fn merge_changed(
         return p;
     }
     let settled = merge_one_changed(store, keys, firsts, limits, p.count, branch);
-    counted(p, settled)
+    counted(p, settled, branch.weight)
 }
 
 // ---- the answer
 
-// What a call answers that was not refused: it lists `count` entries, and its branches became what p counts.
-pub fn answer(h: Header, count: usize, p: Progress) -> Answer
-    ensures { λ r. ⌜ r ≡ answered h count p ⌝ }
+// What a call answers that was not refused: it lists `count` entries, its branches became what p counts, and truncating took so much.
+pub fn answer(h: Header, count: usize, p: Progress, truncated: f64) -> Answer
+    ensures { λ r. ⌜ r ≡ answered h count p truncated ⌝ }
 {
     let counts = Counts {
         merged: p.merged,
@@ -272,5 +281,9 @@ pub fn answer(h: Header, count: usize, p: Progress) -> Answer
         dropped: p.dropped,
         compared: p.compared,
     };
-    answers::answer(0, answers::header_with(h, count, false), counts, 0, 0)
+    let lost = Lost {
+        dropped: p.lost,
+        truncated,
+    };
+    answers::answer(0, answers::header_with(h, count, false), counts, lost, 0, 0)
 }

@@ -11,7 +11,7 @@ use lib.ListN.{length, take, drop, set, replicate, length-drop, length-append, l
 use lib.Seq.{drop-drop, drop-set-lt, set-at, take-at, drop-at, length-take-le}
 use borrow.Author.Tests.{eqb-true}
 use Rattle.model.specs.Lists.{groups, joined, every}
-use Rattle.model.specs.Entries.{Keyed, headLen, coefsLen, rowsLen, entryLen, wordsOf, entryOf, stretch, listed, pastCount, pack, withStretch}
+use Rattle.model.specs.Entries.{Body, Keyed, headLen, coefsLen, rowsLen, entryLen, wordsOf, entryOf, stretch, listed, pastCount, pack, withStretch}
 use Rattle.model.specs.Numbers.{firstOf, allZero}
 use Rattle.model.specs.Calls.{Lent, shape, zerosPast}
 use Rattle.model.specs.Sound.{Packed}
@@ -35,10 +35,13 @@ words-entry s (a ∷ b ∷ c ∷ d ∷ f ∷ r) l =
     ap (λ (t : List ℕ). a ∷ b ∷ c ∷ d ∷ f ∷ t)
     (ap (λ (t : List ℕ). take (coefsLen s) r ++ t) (sym (drop-drop (coefsLen s) headLen (a ∷ b ∷ c ∷ d ∷ f ∷ r))) ∙ take-append-drop (coefsLen s) r)
 
--- an entry with as many words as the size says
-pub record Fits (s : Size) (e : Keyed) : Type 0 where
-  pub coefs : length (e .entry .body .coefs) ≡ coefsLen s
-  pub rows : length (e .entry .body .rows) ≡ rowsLen s
+-- a body with as many words as the size says, and an entry with such a body
+pub record FullBody (s : Size) (b : Body) : Type 0 where
+  pub coefs : length (b .coefs) ≡ coefsLen s
+  pub rows : length (b .rows) ≡ rowsLen s
+
+abbrev pub Fits : Size → Keyed → Type 0
+Fits s e = FullBody s (e .entry .body)
 
 pub entry-words : (s : Size) (e : Keyed) → Fits s e → entryOf s (wordsOf e) ≡ e
 unfolding wordsOf entryOf

@@ -9,7 +9,7 @@ use native.Mathlib.Omega.{arith}
 use lib.ListN.{length, getD, length-append, List·getD-append}
 use lib.Seq.{getD-append-add}
 use Rattle.model.specs.Lists.{wordsBelow}
-use Rattle.model.specs.Entries.{Row, rowAt, xAt, zAt, phaseAt, rowWords, mapRows}
+use Rattle.model.specs.Entries.{Row, rowAt, xAt, zAt, phaseAt, rowWords, rowsBelow, mapRows}
 
 -- ---- pieces of k words
 
@@ -38,24 +38,35 @@ module _ (k : ℕ) (f : ℕ → List ℕ) (pieces : (r : ℕ) → length (f r) �
 pub same-row : {a b c x z p : ℕ} → a ≡ x → b ≡ z → c ≡ p → _≡_ {A = Row} (record { x = a; z = b; phase = c }) (record { x = x; z = z; phase = p })
 same-row ea eb ec = cc
 
+-- row r of those that f gives is f r
+module _ (f : ℕ → Row) (m : ℕ) where
+  pub rowsBelow-length : length (rowsBelow f m) ≡ 3 * m
+  rowsBelow-length = wordsBelow-length 3 (λ r. rowWords (f r)) (λ r. refl) m
+
+  rowsBelow-word : (r j : ℕ) → r < m → j < 3 → getD (rowsBelow f m) (3 * r + j) 0 ≡ getD (rowWords (f r)) j 0
+  rowsBelow-word = wordsBelow-at 3 (λ r. rowWords (f r)) (λ r. refl) m
+
+  rowsBelow-x : (r : ℕ) → r < m → xAt (rowsBelow f m) r ≡ f r .x
+  rowsBelow-x r h = ap (λ (i : ℕ). getD (rowsBelow f m) i 0) (omega arith) ∙ rowsBelow-word r 0 h (omega arith)
+
+  pub rowsBelow-row : (r : ℕ) → r < m → rowAt (rowsBelow f m) r ≡ f r
+  rowsBelow-row r h = same-row (rowsBelow-x r h) (rowsBelow-word r 1 h (omega arith)) (rowsBelow-word r 2 h (omega arith))
+
+-- .. and of those that f makes of rows, what f makes of row r
 module _ (n : ℕ) (f : Row → Row) (rows : List ℕ) where
   pub mapRows-length : length (mapRows n f rows) ≡ 3 * (2 * n)
   unfolding mapRows
-  mapRows-length = wordsBelow-length 3 (λ r. rowWords (f (rowAt rows r))) (λ r. refl) (2 * n)
-
-  mapRows-word : (r j : ℕ) → r < 2 * n → j < 3 → getD (mapRows n f rows) (3 * r + j) 0 ≡ getD (rowWords (f (rowAt rows r))) j 0
-  unfolding mapRows
-  mapRows-word = wordsBelow-at 3 (λ r. rowWords (f (rowAt rows r))) (λ r. refl) (2 * n)
-
-  -- row r is what f makes of row r
-  pub mapRows-x : (r : ℕ) → r < 2 * n → xAt (mapRows n f rows) r ≡ f (rowAt rows r) .x
-  mapRows-x r h = ap (λ (i : ℕ). getD (mapRows n f rows) i 0) (omega arith) ∙ mapRows-word r 0 h (omega arith)
-
-  pub mapRows-z : (r : ℕ) → r < 2 * n → zAt (mapRows n f rows) r ≡ f (rowAt rows r) .z
-  mapRows-z r h = mapRows-word r 1 h (omega arith)
-
-  pub mapRows-phase : (r : ℕ) → r < 2 * n → phaseAt (mapRows n f rows) r ≡ f (rowAt rows r) .phase
-  mapRows-phase r h = mapRows-word r 2 h (omega arith)
+  mapRows-length = rowsBelow-length (λ r. f (rowAt rows r)) (2 * n)
 
   pub mapRows-row : (r : ℕ) → r < 2 * n → rowAt (mapRows n f rows) r ≡ f (rowAt rows r)
-  mapRows-row r h = same-row (mapRows-x r h) (mapRows-z r h) (mapRows-phase r h)
+  unfolding mapRows
+  mapRows-row = rowsBelow-row (λ r. f (rowAt rows r)) (2 * n)
+
+  pub mapRows-x : (r : ℕ) → r < 2 * n → xAt (mapRows n f rows) r ≡ f (rowAt rows r) .x
+  mapRows-x r h = ap (λ (w : Row). w .x) (mapRows-row r h)
+
+  pub mapRows-z : (r : ℕ) → r < 2 * n → zAt (mapRows n f rows) r ≡ f (rowAt rows r) .z
+  mapRows-z r h = ap (λ (w : Row). w .z) (mapRows-row r h)
+
+  pub mapRows-phase : (r : ℕ) → r < 2 * n → phaseAt (mapRows n f rows) r ≡ f (rowAt rows r) .phase
+  mapRows-phase r h = ap (λ (w : Row). w .phase) (mapRows-row r h)

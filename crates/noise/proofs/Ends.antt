@@ -15,6 +15,7 @@ use Rattle.model.specs.declared.Size.{Size}
 use Rattle.model.proofs.Entries.{length-listed}
 use Rattle.model.specs.Sound.{Packed}
 use Rattle.weights.specs.Outcomes.{Normalised, Truncated}
+use Rattle.weights.specs.declared.Cut.{Cut}
 use Rattle.rebuild.specs.Saved.{withWeights, withKeyWords}
 use Rattle.noise.specs.Finish.{Renormalised, Finished, ending, putBack}
 use Rattle.merging.specs.declared.Progress.{Progress}
@@ -37,8 +38,8 @@ module _ (s : Size) (p : Progress) (w : List ℕ) where
       }
 
   module _ (cutoff : Float) (g : Packed s (p .count) w) where
-    abbrev Ends : ℕ → ℕ → List ℕ → Type 0
-    Ends number count w' = Finished s cutoff p w (record { number = number; count = count }) w'
+    abbrev Ends : ℕ → ℕ → Float → List ℕ → Type 0
+    Ends number count taken w' = Finished s cutoff p w (record { number = number; count = count; taken = taken }) w'
 
     -- there is room, so the list is normalised if anything was dropped, and truncated
     pub with-room : {r : Bool} {w' : List ℕ} → Renormalised s p w r w'
@@ -49,8 +50,8 @@ module _ (s : Size) (p : Progress) (w : List ℕ) where
         (le-ltb (s .capacity) (length (listed s (p .count) w)) (omega (arith, length-listed s (p .count) w, g .room)))
         ∙ ap (andThen (truncated keyedWeighed cutoff)) (n .result)
 
-    pub no-room-left : p .full ≡ true → Ends 6 (p .count) w
-    no-room-left f =
+    pub no-room-left : (taken : Float) → p .full ≡ true → Ends 6 (p .count) taken w
+    no-room-left taken f =
         record {
           packed = g;
           full = λ z. refl;
@@ -59,7 +60,7 @@ module _ (s : Size) (p : Progress) (w : List ℕ) where
         }
 
     module _ (o : p .full ≡ false) where
-      pub ended : {v w' : List ℕ} {count : ℕ} → Renormalised s p w true v → Truncated s (p .count) cutoff v count w' → Ends 0 count w'
+      pub ended : {v w' : List ℕ} {r : Cut} → Renormalised s p w true v → Truncated s (p .count) cutoff v r w' → Ends 0 (r .left) (r .taken) w'
       unfolding ending andThen
       ended n t =
           record {
@@ -69,9 +70,9 @@ module _ (s : Size) (p : Progress) (w : List ℕ) where
             unchanged = λ z. absurd (z refl);
           }
 
-      pub nothing-left : {v : List ℕ} → Renormalised s p w false v → Ends 9 (p .count) v
+      pub nothing-left : (taken : Float) {v : List ℕ} → Renormalised s p w false v → Ends 9 (p .count) taken v
       unfolding ending andThen
-      nothing-left n =
+      nothing-left taken n =
           record {
             packed = n .packed;
             full = λ z. absurd (true≢false (sym z ∙ o));

@@ -11,10 +11,10 @@ use Rattle.model.specs.Floats.{float, oneBits, zeroBits, minus}
 use Rattle.model.specs.Entries.{Keyed, listed, strip}
 use Rattle.model.specs.Keys.{keyed, usualSalts}
 use Rattle.model.specs.Store.{Tally, begun, keyedWeighed, weightOf, mergeAll, mergedSplit, testedAll, howMany, aboveCutoff}
-use Rattle.model.specs.Sum.{Result, refused, mapResult, finished}
+use Rattle.model.specs.Sum.{Result, Cut, refused, mapResult, finished}
 use Rattle.model.specs.Channels as Channels
-use Rattle.model.specs.Channels.{Noise, totalRate, foldedTo, scaled, branchesOf, noiseSplit, noiseTally, withEntries, channelled}
-use Rattle.model.specs.Calls.{noise, Lent, rebuilt, rebuiltEntries, worked, acted, engine, act, left, gave, changedTo, accepted, plainAnswer, headerWith, kindOf, dirtyAfter, wordsAfter, splitAs, splitIn, splitBy, testedBy}
+use Rattle.model.specs.Channels.{Noise, totalRate, foldedTo, scaled, branchesOf, noiseSplit, noiseTally, withCut, channelled}
+use Rattle.model.specs.Calls.{noise, Lent, rebuilt, rebuiltEntries, worked, acted, engine, act, left, gave, changedTo, accepted, plainAnswer, kindOf, dirtyAfter, wordsAfter, splitAs, splitIn, splitBy, testedBy}
 use Rattle.model.specs.declared.Size.{Size}
 use Rattle.model.specs.declared.Header.{Header}
 use Rattle.model.proofs.Entries.{length-listed}
@@ -26,7 +26,7 @@ use Rattle.arms.specs.declared.Arms.{Arms}
 use Rattle.rebuild.specs.Saved.{withWeights, withKeyWords}
 use Rattle.rebuild.proofs.Restored as Restored
 use Rattle.entries.proofs.Emptied.{same-store}
-use Rattle.merging.specs.Progress.{tallyOf, unweighed}
+use Rattle.merging.specs.Progress.{tallyOf, unweighed, answered}
 use Rattle.spread.specs.Branches.{scaledBy, branchesBy}
 use Rattle.arms.specs.Arms.{Stands}
 use Rattle.spread.specs.Spread.{keepBy, splitFor, merging, Spread}
@@ -80,16 +80,16 @@ module _ (x : Lent) (r : Arms) (c : Noise) (h : Stands r c) (p : Progress) (w₃
       pub same-tally : noiseTally (engine (hd .size) (hd .threshold)) (hd .cutoff) c ds ≡ tallyOf (hd .size) p w₃
       same-tally = sym (t .tally o ∙ tally-is (hd .size) (hd .threshold) (hd .cutoff) r c h ds)
 
-      pub ends-as : (n : ℕ) (es : List Keyed) → finished keyedWeighed (hd .size .capacity) (hd .cutoff) (p .dropped) (listed (hd .size) (p .count) w₃) ≡ ending n es
-          → act engine (noise c) (worked (noise c) x) ≡ mapResult changedTo (mapResult (withEntries (engine (hd .size) (hd .threshold)) (tallyOf (hd .size) p w₃)) (ending n es))
+      pub ends-as : (n : ℕ) (taken : Float) (es : List Keyed) → finished keyedWeighed (hd .size .capacity) (hd .cutoff) (p .dropped) (listed (hd .size) (p .count) w₃) ≡ ending n taken es
+          → act engine (noise c) (worked (noise c) x) ≡ mapResult changedTo (mapResult (withCut (engine (hd .size) (hd .threshold)) (tallyOf (hd .size) p w₃)) (ending n taken es))
       unfolding act channelled rebuilt kindOf
-      ends-as n es e =
-          ap (λ (u : Tally Keyed). mapResult changedTo (mapResult (withEntries (engine (hd .size) (hd .threshold)) u) (finished keyedWeighed (hd .size .capacity) (hd .cutoff) (u .dropped) (u .entries)))) same-tally
-          ∙ ap (λ (f : Result (List Keyed)). mapResult changedTo (mapResult (withEntries (engine (hd .size) (hd .threshold)) (tallyOf (hd .size) p w₃)) f)) e
+      ends-as n taken es e =
+          ap (λ (u : Tally Keyed). mapResult changedTo (mapResult (withCut (engine (hd .size) (hd .threshold)) u) (finished keyedWeighed (hd .size .capacity) (hd .cutoff) (u .dropped) (u .entries)))) same-tally
+          ∙ ap (λ (f : Result (Cut Keyed)). mapResult changedTo (mapResult (withCut (engine (hd .size) (hd .threshold)) (tallyOf (hd .size) p w₃)) f)) e
 
     -- ---- accepted
 
-    module _ (n count : ℕ) (w₄ : List ℕ) (f : Finished (hd .size) (hd .cutoff) p w₃ (record { number = n; count = count }) w₄) where
+    module _ (n count : ℕ) (taken : Float) (w₄ : List ℕ) (f : Finished (hd .size) (hd .cutoff) p w₃ (record { number = n; count = count; taken = taken }) w₄) where
       abbrev after : List Keyed
       after = listed (hd .size) count w₄
 
@@ -100,14 +100,13 @@ module _ (x : Lent) (r : Arms) (c : Noise) (h : Stands r c) (p : Progress) (w₃
           go false e = e
           go true e = absurd (omega (arith, f .full e, z))
 
-      pub ran-0 : n ≡ 0
-          → gave (accepted (headerWith hd count false) (p .compared) (changedTo (tallyOf (hd .size) (record { count = count; merged = p .merged; stored = p .stored; dropped = p .dropped; compared = p .compared; full = p .full }) w₄))) w₄ ≡ acted (noise c) x
+      pub ran-0 : n ≡ 0 → gave (answered hd count p taken) w₄ ≡ acted (noise c) x
       unfolding left mapResult ending kindOf dirtyAfter wordsAfter testedBy splitBy splitAs splitIn accepted rebuilt
       ran-0 z =
           let o = has-room z in
-          let e = f .result o ∙ ap (λ (k : ℕ). ending k after) z in
+          let e = f .result o ∙ ap (λ (k : ℕ). ending k taken after) z in
           sym
-          (ap (left (noise c) x (worked (noise c) x)) (ends-as o 0 after e)
+          (ap (left (noise c) x (worked (noise c) x)) (ends-as o 0 taken after e)
           ∙ rw (length-listed (hd .size) count w₄, ← packed-is (hd .size) count w₄ (f .packed), sym (t .compared o ∙ tested-is (hd .size) (hd .threshold) (hd .cutoff) r c h ds)))
 
       -- ---- refused
@@ -116,14 +115,14 @@ module _ (x : Lent) (r : Arms) (c : Noise) (h : Stands r c) (p : Progress) (w₃
       unfolding act channelled rebuilt kindOf mapResult
       overfull e =
           let u = noiseTally (engine (hd .size) (hd .threshold)) (hd .cutoff) c ds in
-          ap (λ (g : Result (List Keyed)). mapResult changedTo (mapResult (withEntries (engine (hd .size) (hd .threshold)) u) g))
+          ap (λ (g : Result (Cut Keyed)). mapResult changedTo (mapResult (withCut (engine (hd .size) (hd .threshold)) u) g))
           (no-room keyedWeighed (hd .size .capacity) (hd .cutoff) (u .dropped) (u .entries)
           (omega (arith, t .overflow e, ap (λ (v : Tally Keyed). length (v .entries)) (tally-is (hd .size) (hd .threshold) (hd .cutoff) r c h ds))))
 
       refused-as : (k : ℕ) → n ≡ suc k → (b : Bool) → p .full ≡ b → act engine (noise c) (worked (noise c) x) ≡ refused n
       unfolding ending mapResult
       refused-as k z true e = overfull e ∙ ap refused (sym (f .full e))
-      refused-as k z false e = ends-as e (suc k) after (f .result e ∙ ap (λ (m : ℕ). ending m after) z) ∙ ap refused (sym z)
+      refused-as k z false e = ends-as e (suc k) taken after (f .result e ∙ ap (λ (m : ℕ). ending m taken after) z) ∙ ap refused (sym z)
 
       pub ran-refused : (n ≡ 0 → ⊥) → gave (plainAnswer hd n) (x .words) ≡ acted (noise c) x
       unfolding left

@@ -9,7 +9,7 @@ use lib.ListN.{length, take}
 use Rattle.model.specs.Entries.{Keyed, listed}
 use Rattle.model.specs.Store.{keyedWeighed}
 use Rattle.model.specs.Calls.{rebuiltEntries}
-use Rattle.model.specs.Sum.{Result, done, refused, normalised, finished}
+use Rattle.model.specs.Sum.{Result, done, refused, normalised, Cut, cutTo, finished}
 use Rattle.model.specs.declared.Size.{Size}
 use Rattle.model.specs.Sound.{Packed}
 use Rattle.rebuild.specs.Saved.{withWeights, withKeyWords}
@@ -23,15 +23,15 @@ pub record Renormalised (s : Size) (p : Progress) (w : List ℕ) (r : Bool) (w' 
   pub unchanged : r ≡ false → w' ≡ w
 
 -- the result that an ending stands for
-unfoldable pub ending : ℕ → List Keyed → Result (List Keyed)
-ending zero es = done es
-ending (suc n) es = refused (suc n)
+unfoldable pub ending : ℕ → Float → List Keyed → Result (Cut Keyed)
+ending zero taken es = done (cutTo keyedWeighed taken es)
+ending (suc n) taken es = refused (suc n)
 
 -- w became w'; a refusal changes no word, and is 6 if a branch found no room
 pub record Finished (s : Size) (cutoff : Float) (p : Progress) (w : List ℕ) (r : Ending) (w' : List ℕ) : Type 0 where
   pub packed : Packed s (r .count) w'
   pub full : p .full ≡ true → r .number ≡ 6
-  pub result : p .full ≡ false → finished keyedWeighed (s .capacity) cutoff (p .dropped) (listed s (p .count) w) ≡ ending (r .number) (listed s (r .count) w')
+  pub result : p .full ≡ false → finished keyedWeighed (s .capacity) cutoff (p .dropped) (listed s (p .count) w) ≡ ending (r .number) (r .taken) (listed s (r .count) w')
   pub unchanged : (r .number ≡ 0 → ⊥) → (w' ≡ w) × (r .count ≡ p .count)
 
 -- the first entries as they were: weights and, if they were rebuilt, keys

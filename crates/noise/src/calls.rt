@@ -14,6 +14,7 @@ ghost use Rattle.model.specs.Channels as Channels;
 ghost use Rattle.model.specs.Numbers.{gives, firstOf, someNotBelow, rates, ratesSound};
 ghost use Rattle.model.specs.Calls as Calls;
 ghost use Rattle.model.specs.Calls.{held, gave, step, acted, tested};
+ghost use Rattle.model.specs.Known.{Known, Stepped};
 ghost use Rattle.arms.specs.Arms.{Stands, ShapeBelow};
 ghost use Rattle.noise.specs.Tests.{MayRun};
 
@@ -44,24 +45,24 @@ fn own_number(n: usize, arms: Arms, named: bool) -> u64
 }
 
 // Number 1 to 5 of the call of any noise that has these branches, or 0 if none applies; `named`: the rates that it names are sound.
-pub fn noise_number(h: Header, store: &[u64], arms: Arms, named: bool) -> u64
-    requires { ⌜ arms .count ≤ 15 ⌝ }
+fn noise_number(h: Header, store: &[u64], arms: Arms, named: bool, known: bool) -> u64
+    requires { ⌜ (arms .count ≤ 15) × Known known (held h (now store)) ⌝ }
     ensures { λ r. ⌜ (r ≡ 0 → MayRun (held h (now (store .entry))) arms) ⌝ }
     ensures { λ r. ⌜ ((c : Noise) → Stands arms c → named ≡ every (upTo (float oneBits)) (rates c) → step (Calls.noise c) (held h (now (store .entry))) ≡ tested (held h (now (store .entry))) r (acted (Calls.noise c) (held h (now (store .entry))))) ⌝ }
 {
     let size = h.size;
     let own = own_number(size.n, arms, named);
-    checks::front(h, store, own)
+    checks::front(h, store, own, known)
 }
 
 // ---- the calls
 
-// The call of any noise that has these branches.
-fn call(h: Header, store: &mut [u64], arms: Arms, named: bool) -> Answer
-    requires { ⌜ arms .count ≤ 15 ⌝ }
-    ensures { λ r. ⌜ ((c : Noise) → Stands arms c → named ≡ every (upTo (float oneBits)) (rates c) → gave r (now (store .exit)) ≡ step (Calls.noise c) (held h (now (store .entry)))) ⌝ }
+// The call of any noise that has these branches, told whether all but the weights is known to be sound.
+fn call(h: Header, store: &mut [u64], arms: Arms, named: bool, known: bool) -> Answer
+    requires { ⌜ (arms .count ≤ 15) × Known known (held h (now store)) ⌝ }
+    ensures { λ r. ⌜ ((c : Noise) → Stands arms c → named ≡ every (upTo (float oneBits)) (rates c) → Stepped (Calls.noise c) known (held h (now (store .entry))) r (now (store .exit))) ⌝ }
 {
-    let number = noise_number(h, store, arms, named);
+    let number = noise_number(h, store, arms, named, known);
     if number != 0 {
         return answers::plain_answer(h, number);
     }
@@ -72,8 +73,22 @@ fn call(h: Header, store: &mut [u64], arms: Arms, named: bool) -> Answer
 pub fn channel(h: Header, store: &mut [u64], channel: Channel, q: usize) -> Answer
     ensures { λ r. ⌜ gave r (now (store .exit)) ≡ step (Calls.noise (one channel q)) (held h (now (store .entry))) ⌝ }
 {
+    channel_known(h, store, channel, q, false)
+}
+
+// .. told whether all but the weights is known to be sound.
+pub fn channel_known(
+    h: Header,
+    store: &mut [u64],
+    channel: Channel,
+    q: usize,
+    known: bool,
+) -> Answer
+    requires { ⌜ Known known (held h (now store)) ⌝ }
+    ensures { λ r. ⌜ Stepped (Calls.noise (one channel q)) known (held h (now (store .entry))) r (now (store .exit)) ⌝ }
+{
     let named = arms::named_rates_sound(channel, q);
-    call(h, store, arms::channel_arms(channel, q), named)
+    call(h, store, arms::channel_arms(channel, q), named, known)
 }
 
 // THE CALL: pairs of Paulis on two qubits, with their 15 rates in the order of `PAULI_PAIRS`. Both qubits may be the same one. 1 to 6, 9.
@@ -86,14 +101,44 @@ pub fn two_qubit_pauli_error(
 ) -> Answer
     ensures { λ r. ⌜ gave r (now (store .exit)) ≡ step (Calls.noise (two rates p q)) (held h (now (store .entry))) ⌝ }
 {
+    two_qubit_pauli_error_known(h, store, rates, p, q, false)
+}
+
+// .. told whether all but the weights is known to be sound.
+pub fn two_qubit_pauli_error_known(
+    h: Header,
+    store: &mut [u64],
+    rates: [f64; 15],
+    p: usize,
+    q: usize,
+    known: bool,
+) -> Answer
+    requires { ⌜ Known known (held h (now store)) ⌝ }
+    ensures { λ r. ⌜ Stepped (Calls.noise (two rates p q)) known (held h (now (store .entry))) r (now (store .exit)) ⌝ }
+{
     let named = arms::all_rates_sound(rates);
-    call(h, store, arms::pair_arms(rates, p, q), named)
+    call(h, store, arms::pair_arms(rates, p, q), named, known)
 }
 
 // THE CALL: each of the 15 pairs with a fifteenth of the rate. 1 to 6, 9.
 pub fn depolarize2(h: Header, store: &mut [u64], rate: f64, p: usize, q: usize) -> Answer
     ensures { λ r. ⌜ gave r (now (store .exit)) ≡ step (Calls.noise (Channels.depolarize2 rate p q)) (held h (now (store .entry))) ⌝ }
 {
+    depolarize2_known(h, store, rate, p, q, false)
+}
+
+// .. told whether all but the weights is known to be sound.
+pub fn depolarize2_known(
+    h: Header,
+    store: &mut [u64],
+    rate: f64,
+    p: usize,
+    q: usize,
+    known: bool,
+) -> Answer
+    requires { ⌜ Known known (held h (now store)) ⌝ }
+    ensures { λ r. ⌜ Stepped (Calls.noise (Channels.depolarize2 rate p q)) known (held h (now (store .entry))) r (now (store .exit)) ⌝ }
+{
     let named = arms::rate_sound(rate);
-    call(h, store, arms::depolarize2_arms(rate, p, q), named)
+    call(h, store, arms::depolarize2_arms(rate, p, q), named, known)
 }

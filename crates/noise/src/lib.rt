@@ -3,10 +3,12 @@ mod calls;
 
 use arms::Arms;
 pub use calls::channel;
+pub use calls::channel_known;
 pub use calls::depolarize2;
-pub use calls::noise_number;
+pub use calls::depolarize2_known;
 pub use calls::rates_refused;
 pub use calls::two_qubit_pauli_error;
+pub use calls::two_qubit_pauli_error_known;
 use merging::Limits;
 use merging::Progress;
 use model::Answer;
@@ -27,10 +29,11 @@ ghost use Rattle.noise.specs.Tests.{MayRun};
 
 // ---- the end of a channel
 
-// How it ended: its number, and the entries listed.
+// How it ended: its number, the entries listed, and the weight that truncating took.
 pub struct Ending {
     pub number: u64,
     pub count: usize,
+    pub taken: f64,
 }
 
 // Normalised if anything was dropped. The answer is false for a list that is not empty and whose total is 0; it is left as it is.
@@ -53,15 +56,21 @@ pub fn finish(store: &mut [u64], size: Size, cutoff: f64, p: Progress) -> Ending
         return Ending {
             number: 6,
             count: p.count,
+            taken: 0.0,
         };
     }
     if renormalise(store, size, p) {
-        let count = weights::truncate_entries(store, size, p.count, cutoff);
-        return Ending { number: 0, count };
+        let cut = weights::truncate_entries(store, size, p.count, cutoff);
+        return Ending {
+            number: 0,
+            count: cut.left,
+            taken: cut.taken,
+        };
     }
     Ending {
         number: 9,
         count: p.count,
+        taken: 0.0,
     }
 }
 
@@ -127,7 +136,7 @@ pub fn run(h: Header, store: &mut [u64], arms: Arms) -> Answer
     let p = spread::spread(store, &mut saved, limits, arms, count);
     let end = finish(store, size, h.cutoff, p);
     if end.number == 0 {
-        return merging::answer(h, end.count, p);
+        return merging::answer(h, end.count, p, end.taken);
     }
     undo(
         store,

@@ -13,6 +13,7 @@ ghost use Rattle.model.specs.Entries.{strip, entryOf, listed};
 ghost use Rattle.model.specs.Numbers.{weightSound};
 ghost use Rattle.model.specs.Page.{hexDigit, hexadecimal, pageLineLen, pageLine, pageText};
 ghost use Rattle.model.specs.Calls as Calls;
+ghost use Rattle.model.specs.Known.{Known};
 ghost use Rattle.model.specs.Sound.{Sound};
 
 // ---- the loss word
@@ -80,7 +81,16 @@ pub fn write_page(h: Header, store: &[u64], out: &mut [u8]) -> Answer
     ensures answer { λ r. ⌜ r ≡ Calls.step (Calls.page (length (now (out .entry)))) (Calls.held h (now (store .entry))) .answer ⌝ }
     ensures output { λ _. ⌜ now (out .exit) ≡ Calls.overlaid (Calls.step (Calls.page (length (now (out .entry)))) (Calls.held h (now (store .entry))) .output) (now (out .entry)) ⌝ }
 {
-    let number = checks::front(h, store, 0);
+    write_page_known(h, store, out, false)
+}
+
+// .. told whether all but the weights is known to be sound.
+pub fn write_page_known(h: Header, store: &[u64], out: &mut [u8], known: bool) -> Answer
+    requires { ⌜ Known known (Calls.held h (now store)) ⌝ }
+    ensures answer { λ r. ⌜ r ≡ Calls.step (Calls.page (length (now (out .entry)))) (Calls.held h (now (store .entry))) .answer ⌝ }
+    ensures output { λ _. ⌜ now (out .exit) ≡ Calls.overlaid (Calls.step (Calls.page (length (now (out .entry)))) (Calls.held h (now (store .entry))) .output) (now (out .entry)) ⌝ }
+{
+    let number = checks::front(h, store, 0, known);
     if number != 0 {
         return answers::plain_answer(h, number);
     }

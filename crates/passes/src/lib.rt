@@ -2,6 +2,7 @@
 use circuit::Fault;
 use input::Window;
 ghost use mathlib.Core.Path.{_≡_};
+ghost use Rattle.passes.specs.Going.{isGoing};
 
 // Why a pass stands still.
 pub enum Outcome {
@@ -41,7 +42,9 @@ pub struct Pass {
     pub to: usize,
 }
 
-pub fn start() -> Pass {
+pub fn start() -> Pass
+    ensures { λ r. ⌜ r .outcome ≡ Outcome.Going ⌝ }
+{
     Pass {
         window: input::start(),
         line: 0,
@@ -62,7 +65,7 @@ pub fn next(n: u64) -> u64 {
 
 // The pass at its next line.
 pub fn moved(pass: Pass, window: Window) -> Pass
-    ensures { λ r. ⌜ (r .window .from ≡ window .from) × (r .window .to ≡ window .to) ⌝ }
+    ensures { λ r. ⌜ r .window ≡ window ⌝ }
 {
     Pass {
         window,
@@ -75,7 +78,9 @@ pub fn moved(pass: Pass, window: Window) -> Pass
 }
 
 // .. ends, at a word.
-pub fn ended(pass: Pass, outcome: Outcome, from: usize, to: usize) -> Pass {
+pub fn ended(pass: Pass, outcome: Outcome, from: usize, to: usize) -> Pass
+    ensures { λ r. ⌜ r .outcome ≡ outcome ⌝ }
+{
     let window = pass.window;
     Pass {
         window,
@@ -117,11 +122,24 @@ pub fn jumped(pass: Pass, offset: u64, line: u64) -> Pass {
     }
 }
 
-pub fn is_going(pass: Pass) -> bool {
+pub fn is_going(pass: Pass) -> bool
+    ensures { λ r. ⌜ r ≡ isGoing pass ⌝ }
+{
     let outcome = pass.outcome;
     match outcome {
         Outcome::Going => true,
-        _ => false,
+        Outcome::Done => false,
+        Outcome::Bad(_) => false,
+        Outcome::Rates => false,
+        Outcome::TooLong => false,
+        Outcome::Failed => false,
+        Outcome::Cut => false,
+        Outcome::TooDeep => false,
+        Outcome::NoRepeat => false,
+        Outcome::Unclosed(_) => false,
+        Outcome::Refused(_, _, _) => false,
+        Outcome::TooMuchLost(_) => false,
+        Outcome::Unwritten => false,
     }
 }
 

@@ -1,8 +1,8 @@
 -- A call as words: its kind, two whole numbers, and the bits of up to 15 rates. Assumes nothing.
 use Prim.Native.Nat.{ℕ, _+_}
-use mathlib.Core.Bool.{Bool, cond}
+use mathlib.Core.Bool.{Bool, cond, not, _&&_, _||_}
 use mathlib.Core.List.{List, map}
-use lib.Dec.{eqb, ltb}
+use lib.Dec.{eqb, ltb, leb}
 use lib.Ieee.{Float}
 use lib.ListN.{getD, drop}
 use Rattle.model.specs.Floats.{float}
@@ -41,6 +41,14 @@ roomIn w = cond (ltb shownWords (firstIn w)) shownWords (firstIn w)
 
 unfoldable pub known : List ℕ → Bool
 known w = ltb (kindIn w) 16
+
+-- a table or a view: it shows words in its record
+unfoldable pub showsWords : List ℕ → Bool
+showsWords w = eqb (kindIn w) 11 || eqb (kindIn w) 14
+
+-- a known kind, whose record has room for what it may show, if it has room for `shown` words
+unfoldable pub fitting : (shown : ℕ) → List ℕ → Bool
+fitting shown w = known w && (not (showsWords w) || leb shownWords shown)
 
 -- the call of a kind; a sheet or a page has room for `bytes` bytes
 unfoldable pub callBy : ℕ → ℕ → List ℕ → Call

@@ -4,8 +4,9 @@
 //    6 H at q   7 S at q   8 CNOT p to q   9 truncate   10 normalise
 //   11 table, its room in word 1   12 pick, its draw in word 3   13 sheet   14 view, its place in word 1
 //   15 page
-// What it gives goes to a record: number, merged, stored, dropped, compared, place and length, and behind these a table's words or a
-// view's. A sheet or a page goes to a text. specs/Encoding.antt says which words are which call, specs/Records.antt what is left.
+// What it gives goes to a record: number, merged, stored, dropped, compared, place, length, the bits of the dropped and of the truncated
+// weight, entries, flag, and behind these a table's words or a view's. A sheet or a page goes to a text. specs/Encoding.antt says which
+// words are which call, specs/Records.antt what is left.
 use model::Answer;
 use model::Channel;
 use model::Gate;
@@ -16,10 +17,11 @@ ghost use Prim.Native.Nat.{ℕ, _<_, _≤_};
 ghost use lib.ListN.{length, getD};
 ghost use Rattle.model.specs.Channels.{one};
 ghost use Rattle.model.specs.Calls as Calls;
-ghost use Rattle.model.specs.Calls.{held, gave, step, overlaid};
-ghost use Rattle.perform.specs.Encoding.{callWords, shownWords, kindIn, firstIn, ratesIn, roomIn, callOf};
+ghost use Rattle.model.specs.Calls.{held, overlaid};
+ghost use Rattle.model.specs.Known.{Known, knownAfter, Stepped};
+ghost use Rattle.perform.specs.Encoding.{callWords, shownWords, kindIn, firstIn, ratesIn, roomIn, showsWords, callOf};
 ghost use Rattle.perform.specs.Encoding as Encoding;
-ghost use Rattle.perform.specs.Records.{numbers, recordWords, numberWords, Made, Looked};
+ghost use Rattle.perform.specs.Records.{numbers, recordWords, numberWords, flagWord, Made, Looked};
 
 // ---- the words of a call
 
@@ -29,7 +31,7 @@ pub const CALL_WORDS: usize = 18;
 pub const SHOWN_WORDS: usize = 581;
 
 // A record begins with the numbers of an answer; what is shown stands behind them.
-pub const NUMBER_WORDS: usize = 7;
+pub const NUMBER_WORDS: usize = 11;
 
 pub const RECORD_WORDS: usize = NUMBER_WORDS + SHOWN_WORDS;
 
@@ -39,6 +41,24 @@ pub fn known(call: &[u64]) -> bool
     ensures { λ r. ⌜ r ≡ Encoding.known (now (call .entry)) ⌝ }
 {
     call[0] < 16
+}
+
+// .. and a record with room for `shown` words behind its numbers can show what it may show.
+pub fn fitting(call: &[u64], shown: usize) -> bool
+    requires { ⌜ length (now call) ≡ callWords ⌝ }
+    ensures { λ r. ⌜ r ≡ Encoding.fitting shown (now (call .entry)) ⌝ }
+{
+    if !known(call) {
+        return false;
+    }
+    let kind = call[0];
+    if kind == 11 {
+        return SHOWN_WORDS <= shown;
+    }
+    if kind == 14 {
+        return SHOWN_WORDS <= shown;
+    }
+    true
 }
 
 // A whole number of a call.
@@ -121,46 +141,53 @@ fn gate_in(call: &[u64]) -> Gate
 // ---- the calls that change the sum
 
 // A channel: kinds 0 to 4.
-fn make_noise(h: Header, store: &mut [u64], call: &[u64]) -> Answer
-    requires { ⌜ (length (now call) ≡ callWords) × (kindIn (now call) < 5) ⌝ }
-    ensures { λ r. ⌜ ((bytes : ℕ) → gave r (now (store .exit)) ≡ step (callOf bytes (now (call .entry))) (held h (now (store .entry)))) ⌝ }
+fn make_noise(h: Header, store: &mut [u64], call: &[u64], known: bool) -> Answer
+    requires { ⌜ (length (now call) ≡ callWords) × (kindIn (now call) < 5) × Known known (held h (now store)) ⌝ }
+    ensures { λ r. ⌜ ((bytes : ℕ) → Stepped (callOf bytes (now (call .entry))) known (held h (now (store .entry))) r (now (store .exit))) ⌝ }
 {
     let kind = call[0];
     let p = whole(call, 1);
     if kind < 3 {
         let c = channel_in(call);
-        return noise::channel(h, store, c, p);
+        return noise::channel_known(h, store, c, p, known);
     }
     let q = whole(call, 2);
     if kind == 3 {
         let all = rates(call);
-        return noise::two_qubit_pauli_error(h, store, all, p, q);
+        return noise::two_qubit_pauli_error_known(h, store, all, p, q, known);
     }
     let x = rate(call, 0);
-    noise::depolarize2(h, store, x, p, q)
+    noise::depolarize2_known(h, store, x, p, q, known)
 }
 
 // A call that names no rate: a reset, a gate, truncate or normalise, kinds 5 to 10.
-fn make_plain(h: Header, store: &mut [u64], call: &[u64]) -> Answer
-    requires { ⌜ (length (now call) ≡ callWords) × (5 ≤ kindIn (now call)) × (kindIn (now call) < 11) ⌝ }
-    ensures { λ r. ⌜ ((bytes : ℕ) → gave r (now (store .exit)) ≡ step (callOf bytes (now (call .entry))) (held h (now (store .entry)))) ⌝ }
+fn make_plain(h: Header, store: &mut [u64], call: &[u64], known: bool) -> Answer
+    requires { ⌜ (length (now call) ≡ callWords) × (5 ≤ kindIn (now call)) × (kindIn (now call) < 11) × Known known (held h (now store)) ⌝ }
+    ensures { λ r. ⌜ ((bytes : ℕ) → Stepped (callOf bytes (now (call .entry))) known (held h (now (store .entry))) r (now (store .exit))) ⌝ }
 {
     let kind = call[0];
     if kind == 5 {
         let q = whole(call, 1);
-        return reset::reset_loss_channel(h, store, q);
+        return reset::reset_loss_channel_known(h, store, q, known);
     }
     if kind < 9 {
         let g = gate_in(call);
-        return gates::gate(h, store, g);
+        return gates::gate_known(h, store, g, known);
     }
     if kind == 9 {
-        return weights::truncate(h, store);
+        return weights::truncate_known(h, store, known);
     }
-    weights::normalise(h, store)
+    weights::normalise_known(h, store, known)
 }
 
 // ---- the record
+
+// 0 or 1.
+fn flag_word(dirty: bool) -> u64
+    ensures { λ r. ⌜ r ≡ flagWord dirty ⌝ }
+{
+    if dirty { 1 } else { 0 }
+}
 
 // An answer's numbers at the start of a record.
 fn put_numbers(out: &mut [u64], a: Answer)
@@ -168,6 +195,8 @@ fn put_numbers(out: &mut [u64], a: Answer)
     ensures { λ _. ⌜ now (out .exit) ≡ overlaid (numbers a) (now (out .entry)) ⌝ }
 {
     let counts = a.counts;
+    let lost = a.lost;
+    let header = a.header;
     let all = [
         a.number,
         counts.merged as u64,
@@ -176,6 +205,10 @@ fn put_numbers(out: &mut [u64], a: Answer)
         counts.compared as u64,
         a.place as u64,
         a.length as u64,
+        words::bits_of(lost.dropped),
+        words::bits_of(lost.truncated),
+        header.count as u64,
+        flag_word(header.dirty),
     ];
     words::copy_words(&mut out[0..NUMBER_WORDS], &all);
 }
@@ -183,90 +216,95 @@ fn put_numbers(out: &mut [u64], a: Answer)
 // ---- the calls that change nothing
 
 // A table in a record.
-fn show_table(h: Header, store: &[u64], room: usize, out: &mut [u64]) -> Header
-    requires { ⌜ (room ≤ shownWords) × (length (now out) ≡ recordWords) ⌝ }
+fn show_table(h: Header, store: &[u64], room: usize, out: &mut [u64], known: bool) -> Answer
+    requires { ⌜ (room ≤ shownWords) × (recordWords ≤ length (now out)) × Known known (held h (now store)) ⌝ }
     ensures { λ r. ⌜ Looked (Calls.table room) (held h (now (store .entry))) r (now (out .entry)) (now (out .exit)) ⌝ }
 {
     let end = NUMBER_WORDS + room;
-    let a = table::table(h, store, &mut out[NUMBER_WORDS..end]);
+    let a = table::table_known(h, store, &mut out[NUMBER_WORDS..end], known);
     put_numbers(out, a);
-    a.header
+    a
 }
 
 // A pick in a record.
-fn show_pick(h: Header, store: &[u64], draw: f64, out: &mut [u64]) -> Header
-    requires { ⌜ length (now out) ≡ recordWords ⌝ }
+fn show_pick(h: Header, store: &[u64], draw: f64, out: &mut [u64], known: bool) -> Answer
+    requires { ⌜ (numberWords ≤ length (now out)) × Known known (held h (now store)) ⌝ }
     ensures { λ r. ⌜ Looked (Calls.pick draw) (held h (now (store .entry))) r (now (out .entry)) (now (out .exit)) ⌝ }
 {
-    let a = table::pick(h, store, draw);
+    let a = table::pick_known(h, store, draw, known);
     put_numbers(out, a);
-    a.header
+    a
 }
 
 // A view in a record: the entry's words, its keys among them.
-fn show_view(h: Header, store: &[u64], place: usize, out: &mut [u64]) -> Header
-    requires { ⌜ length (now out) ≡ recordWords ⌝ }
+fn show_view(h: Header, store: &[u64], place: usize, out: &mut [u64], known: bool) -> Answer
+    requires { ⌜ (recordWords ≤ length (now out)) × Known known (held h (now store)) ⌝ }
     ensures { λ r. ⌜ Looked (Calls.view place) (held h (now (store .entry))) r (now (out .entry)) (now (out .exit)) ⌝ }
 {
-    let a = view::view_answer(h, store, place);
-    let shown = view::view_words(h, store, place);
+    let a = view::view_answer_known(h, store, place, known);
+    let shown = view::view_words_known(h, store, place, known);
     let end = NUMBER_WORDS + shown.len();
     words::copy_words(&mut out[NUMBER_WORDS..end], shown);
     put_numbers(out, a);
-    a.header
+    a
 }
 
 // A table, a pick or a view: kinds 11, 12 and 14.
-fn look(h: Header, store: &[u64], call: &[u64], out: &mut [u64]) -> Header
-    requires { ⌜ (length (now call) ≡ callWords) × (11 ≤ kindIn (now call)) × (kindIn (now call) < 15) × (kindIn (now call) ≡ 13 → ⊥) × (length (now out) ≡ recordWords) ⌝ }
+fn look(h: Header, store: &[u64], call: &[u64], out: &mut [u64], known: bool) -> Answer
+    requires { ⌜ (length (now call) ≡ callWords) × (11 ≤ kindIn (now call)) × (kindIn (now call) < 15) × (kindIn (now call) ≡ 13 → ⊥) ⌝ }
+    requires { ⌜ (numberWords ≤ length (now out)) × (showsWords (now call) ≡ true → recordWords ≤ length (now out)) × Known known (held h (now store)) ⌝ }
     ensures { λ r. ⌜ ((bytes : ℕ) → Looked (callOf bytes (now (call .entry))) (held h (now (store .entry))) r (now (out .entry)) (now (out .exit))) ⌝ }
 {
     let kind = call[0];
     if kind == 11 {
         let room = table_room(call);
-        return show_table(h, store, room, out);
+        return show_table(h, store, room, out, known);
     }
     if kind == 12 {
         let draw = rate(call, 0);
-        return show_pick(h, store, draw, out);
+        return show_pick(h, store, draw, out, known);
     }
     let place = whole(call, 1);
-    show_view(h, store, place, out)
+    show_view(h, store, place, out, known)
 }
 
 // ---- one call
 
-// Any call, on header and store; its record in `out`, and its text, if it is a sheet or a page, in `text`.
+// Any call, on header and store, told whether all but the weights is known to be sound; its record in `out`, and its text, if it is a sheet
+// or a page, in `text`.
 pub fn perform(
     h: Header,
     store: &mut [u64],
     call: &[u64],
     out: &mut [u64],
     text: &mut [u8],
-) -> Header
-    requires { ⌜ (length (now call) ≡ callWords) × (Encoding.known (now call) ≡ true) × (length (now out) ≡ recordWords) ⌝ }
-    ensures { λ r. ⌜ Made (callOf (length (now (text .entry))) (now (call .entry))) (held h (now (store .entry))) (held r (now (store .exit))) (now (out .entry)) (now (out .exit)) (now (text .entry)) (now (text .exit)) ⌝ }
+    known: bool,
+) -> Answer
+    requires { ⌜ (length (now call) ≡ callWords) × (Encoding.known (now call) ≡ true) × Known known (held h (now store)) ⌝ }
+    requires { ⌜ (numberWords ≤ length (now out)) × (showsWords (now call) ≡ true → recordWords ≤ length (now out)) ⌝ }
+    ensures { λ r. ⌜ Made (callOf (length (now (text .entry))) (now (call .entry))) (held h (now (store .entry))) r (now (store .exit)) (now (out .entry)) (now (out .exit)) (now (text .entry)) (now (text .exit)) ⌝ }
+    ensures { λ r. ⌜ Known (knownAfter known (r .number)) (held (r .header) (now (store .exit))) ⌝ }
 {
     let kind = call[0];
     if kind < 5 {
-        let a = make_noise(h, store, call);
+        let a = make_noise(h, store, call, known);
         put_numbers(out, a);
-        return a.header;
+        return a;
     }
     if kind < 11 {
-        let a = make_plain(h, store, call);
+        let a = make_plain(h, store, call, known);
         put_numbers(out, a);
-        return a.header;
+        return a;
     }
     if kind == 13 {
-        let a = sheet::write_sheet(h, store, text);
+        let a = sheet::write_sheet_known(h, store, text, known);
         put_numbers(out, a);
-        return a.header;
+        return a;
     }
     if kind == 15 {
-        let a = page::write_page(h, store, text);
+        let a = page::write_page_known(h, store, text, known);
         put_numbers(out, a);
-        return a.header;
+        return a;
     }
-    look(h, store, call, out)
+    look(h, store, call, out, known)
 }

@@ -1,10 +1,17 @@
 // Calls from standard input, made one after the other on one store and one text, each as a list of one call (runs::run). A line for each
-// call: its kind and two whole numbers; the record's seven numbers; the header; the digests of the store, of the record and of the text;
-// and up to twenty words that the call wrote or shows. A start has its number in place of the record. differential/replay.py has the
-// cases, and makes both the input and what is to come out.
+// call: its kind and two whole numbers; the record's numbers; the header; the digests of the store, of the record and of the text; and up
+// to twenty words that the call wrote or shows. A start has its number in place of the record. Of a list of more calls: its number and how
+// many were made, and then the numbers of every record, a line each. differential/replay.py has the cases, and makes both the input and
+// what is to come out.
 use libc::STDIN_FILENO;
 use model::Header;
 use model::Size;
+use runs::Room;
+use test_support::LIST_WORDS;
+use test_support::LOG_WORDS;
+use test_support::NUMBER_WORDS;
+use test_support::RECORD_WORDS;
+use test_support::SHOWN_WORDS;
 
 // What is lent: after word 0 the header's seven words, how many words of the store, and how many bytes of the text.
 fn header_of(state: &[u64; 18]) -> Header {
@@ -59,33 +66,119 @@ fn tell_shown(kind: u64, record: &[u64]) {
     }
     test_support::text(b", shown");
     if 20 < length {
-        test_support::numbers(record, 7, 27);
+        test_support::numbers(record, NUMBER_WORDS, NUMBER_WORDS + 20);
         return;
     }
-    test_support::numbers(record, 7, 7 + length as usize);
+    test_support::numbers(record, NUMBER_WORDS, NUMBER_WORDS + length as usize);
 }
 
-fn tell_record(record: &[u64], text: &[u8]) {
-    test_support::text(b", record");
-    test_support::number(test_support::digest(record));
+// The digests of a record or a log, and of the text.
+fn tell_written(name: &[u8], words: &[u64], text: &[u8]) {
+    test_support::text(name);
+    test_support::number(test_support::digest(words));
     test_support::text(b", text");
     test_support::number(test_support::digest_bytes(text));
+}
+
+// The numbers of each record of a log.
+fn tell_records(log: &[u64], shown: usize, count: usize) {
+    if SHOWN_WORDS < shown {
+        return;
+    }
+    let len = NUMBER_WORDS + shown;
+    let mut at = 0;
+    let mut i: usize = 0;
+    while i < count {
+        if log.len() - at < len {
+            return;
+        }
+        test_support::numbers(log, at, at + NUMBER_WORDS);
+        test_support::text(b"\n");
+        at += len;
+        i += 1;
+    }
 }
 
 // ---- calls
 
 fn call(state: &mut [u64; 18], store: &mut [u64], text: &mut [u8], item: &[u64; 18]) {
-    let mut record = [7u64; 588];
-    let bytes = text.len();
-    let ran = runs::run(header_of(state), store, item, &mut record, text, bytes);
+    let mut record = [7u64; RECORD_WORDS];
+    let room = Room {
+        shown: SHOWN_WORDS,
+        bytes: text.len(),
+    };
+    let ran = runs::run(
+        header_of(state),
+        store,
+        item,
+        &mut record,
+        text,
+        room,
+        false,
+    );
     put_header(state, ran.header);
     test_support::numbers(item, 0, 3);
     test_support::text(b" gives");
-    test_support::numbers(&record, 0, 7);
+    test_support::numbers(&record, 0, NUMBER_WORDS);
     tell_sum(state, store);
-    tell_record(&record, text);
+    tell_written(b", record", &record, text);
     tell_shown(item[0], &record);
     test_support::text(b"\n");
+}
+
+// A list of calls, from their words, with a log of this length. The item: how many, whether a refusal ends it, what each call has room for.
+fn run_list(
+    state: &mut [u64; 18],
+    store: &mut [u64],
+    text: &mut [u8],
+    item: &[u64; 18],
+    calls: &[u64],
+    log: &mut [u64],
+) {
+    let room = Room {
+        shown: item[3] as usize,
+        bytes: item[4] as usize,
+    };
+    let ran = runs::run(
+        header_of(state),
+        store,
+        calls,
+        log,
+        text,
+        room,
+        item[2] != 0,
+    );
+    put_header(state, ran.header);
+    test_support::number(31);
+    test_support::text(b" gives");
+    test_support::number(ran.number);
+    test_support::number(ran.made as u64);
+    tell_sum(state, store);
+    tell_written(b", log", log, text);
+    test_support::text(b"\n");
+    if ran.number == 0 {
+        tell_records(log, room.shown, item[1] as usize);
+    }
+}
+
+// .. then the words of the log, and those of the calls.
+fn make_list(
+    state: &mut [u64; 18],
+    store: &mut [u64],
+    text: &mut [u8],
+    item: &[u64; 18],
+    calls: &[u64],
+) {
+    let mut log = [7u64; LOG_WORDS];
+    let len = item[5] as usize;
+    let words = item[6] as usize;
+    if log.len() < len {
+        return;
+    }
+    if calls.len() < words {
+        return;
+    }
+    run_list(state, store, text, item, &calls[0..words], &mut log[0..len]);
 }
 
 // A sum begins, from its size and bounds.
@@ -145,8 +238,8 @@ fn tell_title(letter: u8) {
     test_support::text(&line);
 }
 
-// Below 20 a call, 20 and 21 a start, then changes.
-fn act(state: &mut [u64; 18], store: &mut [u64], text: &mut [u8], item: &[u64; 18]) {
+// Below 20 a call, 20 and 21 a start, then changes; 31 a list.
+fn act(state: &mut [u64; 18], store: &mut [u64], text: &mut [u8], item: &[u64; 18], calls: &[u64]) {
     let kind = item[0];
     if kind < 20 {
         call(state, store, text, item);
@@ -158,11 +251,19 @@ fn act(state: &mut [u64; 18], store: &mut [u64], text: &mut [u8], item: &[u64; 1
         change_words(store, item);
     } else if kind < 29 {
         change_bytes(text, item);
+    } else if kind == 31 {
+        make_list(state, store, text, item, calls);
     }
 }
 
 // On the part of the store and of the text that is lent.
-fn step(state: &mut [u64; 18], store: &mut [u64], text: &mut [u8], item: &[u64; 18]) {
+fn step(
+    state: &mut [u64; 18],
+    store: &mut [u64],
+    text: &mut [u8],
+    item: &[u64; 18],
+    calls: &[u64],
+) {
     let len = state[8] as usize;
     let bytes = state[9] as usize;
     if store.len() < len {
@@ -171,13 +272,22 @@ fn step(state: &mut [u64; 18], store: &mut [u64], text: &mut [u8], item: &[u64; 
     if text.len() < bytes {
         return;
     }
-    act(state, &mut store[0..len], &mut text[0..bytes], item);
+    act(state, &mut store[0..len], &mut text[0..bytes], item, calls);
+}
+
+// The calls of a list, behind item 31. The place behind them is the answer.
+fn read_list(given: &[u8], at: usize, item: &[u64; 18], calls: &mut [u64]) -> usize {
+    if item[0] == 31 {
+        return test_support::read_calls(given, at, item[1] as usize, calls);
+    }
+    at
 }
 
 // The items up to the end of what is given. Item 30 says what is lent.
 fn replay(given: &[u8], store: &mut [u64], text: &mut [u8]) {
     let mut state = [0u64; 18];
     let mut item = [0u64; 18];
+    let mut calls = [0u64; LIST_WORDS];
     let mut at = 0;
     let mut i: usize = 0;
     while i < 20_000 {
@@ -189,7 +299,8 @@ fn replay(given: &[u8], store: &mut [u64], text: &mut [u8]) {
         if item[0] == 30 {
             state = item;
         }
-        step(&mut state, store, text, &item);
+        at = read_list(given, at, &item, &mut calls);
+        step(&mut state, store, text, &item, &calls);
         i += 1;
     }
 }
@@ -200,7 +311,7 @@ fn text_room() -> [u8; 3_200_000] {
 }
 
 fn main() {
-    let mut given = [0u8; 262_144];
+    let mut given = [0u8; 524_288];
     let mut store = [0u64; 148_736];
     let mut text = text_room();
     let n = io::read_full(STDIN_FILENO, &mut given);

@@ -11,7 +11,8 @@ use lib.ListN.{length, drop, getD, drop-of-length-le}
 use lib.Seq.{drop-cons}
 use Rattle.model.specs.Entries.{Keyed, entryLen, entryOf, stretch}
 use Rattle.model.specs.Keys.{usualSalts}
-use Rattle.model.specs.Store.{Tally, begun, walk, merge, mergeAll, testedAll, howMany, aboveCutoff}
+use Rattle.model.specs.Changes.{changedEntry, changedKeyed}
+use Rattle.model.specs.Store.{Tally, keyedWeighed, weightOf, begun, walk, merge, mergeAll, testedAll, howMany, aboveCutoff}
 use Rattle.model.specs.Calls.{engine}
 use Rattle.model.specs.declared.Size.{Size}
 use Rattle.model.proofs.Groups.{stride-le}
@@ -45,8 +46,8 @@ picked-in {s} {total} {m} {places} {w} g h t i b =
 abbrev counts : Progress → ℕ
 counts p = p .merged + p .stored + p .dropped
 
-module _ (p : Progress) (k : ℕ) where
-  fate-adds : (f : Fate) → (f ≡ NoRoom → ⊥) → (after f p k .compared ≡ p .compared + k) × (counts (after f p k) ≡ counts p + 1) × (after f p k .count ≤ p .count + 1)
+module _ (p : Progress) (k v : ℕ) where
+  fate-adds : (f : Fate) → (f ≡ NoRoom → ⊥) → (after f p k v .compared ≡ p .compared + k) × (counts (after f p k v) ≡ counts p + 1) × (after f p k v .count ≤ p .count + 1)
   unfolding after
   fate-adds Merged n = (refl, omega arith, omega arith)
   fate-adds Stored n = (refl, omega arith, omega arith)
@@ -54,7 +55,7 @@ module _ (p : Progress) (k : ℕ) where
   fate-adds NoRoom n = absurd (n refl)
 
   tally-adds : (s : Size) (b : Keyed) (order w order′ w′ : List ℕ) (f : Fate) → (f ≡ NoRoom → ⊥)
-      → added (tallyOn s p order w) (tallyBy f b (picked s (countBy f (p .count)) order′ w′)) ≡ tallyOn s (after f p k) order′ w′
+      → added v (tallyOn s p order w) (tallyBy f b (picked s (countBy f (p .count)) order′ w′)) ≡ tallyOn s (after f p k v) order′ w′
   unfolding after countBy tallyBy
   tally-adds s b order w order′ w′ Merged n = simp add-zero
   tally-adds s b order w order′ w′ Stored n = simp add-zero
@@ -128,6 +129,10 @@ module _ (s : Size) (threshold cutoff : Float) (q stay total : ℕ) (order₀ le
     abbrev branch : Keyed
     branch = liveAt s q w place
 
+    -- becoming live it keeps its weight
+    abbrev weight : ℕ
+    weight = weightOf keyedWeighed (entryOf s (stretch s w place))
+
     to-come : map (live s q) (drop j outs) ≡ branch ∷ map (live s q) (drop (j + 1) outs)
     to-come =
         let d = entryOf s [] in
@@ -144,16 +149,17 @@ module _ (s : Size) (threshold cutoff : Float) (q stay total : ℕ) (order₀ le
           omega (arith, m .tested, tested-few s threshold branch 0 (picked s (p .count) order w), picked-long s (p .count) order w n)
 
       abbrev next : Progress
-      next = after (r .fate) p (r .compared)
+      next = after (r .fate) p (r .compared) weight
 
       abbrev one : Tally Keyed
       one = merge (engine s threshold) (aboveCutoff cutoff) branch before
 
       one-is : one ≡ tallyOn s next order′ w′
+      unfolding changedKeyed changedEntry
       one-is =
           merge-adds (engine s threshold) (aboveCutoff cutoff) branch before
-          ∙ ap (added before) (m .tally)
-          ∙ tally-adds p (r .compared) s branch order w order′ w′ (r .fate) (m .roomy)
+          ∙ ap (added weight before) (m .tally)
+          ∙ tally-adds p (r .compared) weight s branch order w order′ w′ (r .fate) (m .roomy)
 
       merged-next : mergedFrom j before ≡ mergedFrom (j + 1) one
       unfolding mergeAll
@@ -170,11 +176,11 @@ module _ (s : Size) (threshold cutoff : Float) (q stay total : ℕ) (order₀ le
           (λ (e : getD left k 0 ≡ getD left j 0). let o : k ≡ j = t₀ .once k j b h e in omega arith)
           (λ u g. t .apart u k g (omega arith) b)
 
-      pub one-brought : (p′ : Progress) → p′ ≡ next → Bringing (j + 1) p′ order′ w′ keys′ firsts′
-      one-brought p′ e =
-          let f = fate-adds p (r .compared) (r .fate) (m .roomy) in
-          let n : next .count ≡ countBy (r .fate) (p .count) = count-after (r .fate) p (r .compared) in
-          rw e
+      pub one-brought : (v : ℕ) → v ≡ weight → (p′ : Progress) → p′ ≡ after (r .fate) p (r .compared) v → Bringing (j + 1) p′ order′ w′ keys′ firsts′
+      one-brought v x p′ e =
+          let f = fate-adds p (r .compared) weight (r .fate) (m .roomy) in
+          let n : next .count ≡ countBy (r .fate) (p .count) = count-after (r .fate) p (r .compared) weight in
+          rw (e ∙ ap (after (r .fate) p (r .compared)) x)
           (record {
             packed = m .packed;
             long = m .long;

@@ -17,7 +17,7 @@ use Rattle.model.specs.Sound.{Packed}
 use Rattle.model.proofs.Packed.{packed-is}
 use Rattle.places.specs.Leaving.{leaving}
 use Rattle.places.specs.Places.{picked, Left}
-use Rattle.merging.specs.Progress.{tallyOf}
+use Rattle.merging.specs.Progress.{talliedBy, tallyOf}
 use Rattle.merging.specs.declared.Progress.{Progress}
 use Rattle.reset.specs.Return.{live, lostOf, Brought, Merged}
 
@@ -43,7 +43,7 @@ module _ (s : Size) (threshold cutoff : Float) (q count : ℕ) (w : List ℕ) (s
       record {
         packed = g;
         tally =
-            ap (λ (l : List Keyed). record { entries = l; merged = p .merged; stored = p .stored; dropped = p .dropped }) a
+            ap (talliedBy p) a
             ∙ m .tally
             ∙ ap₂ merges branches-are (t .ins);
         compared = m .compared ∙ ap₂ tests-of branches-are (t .ins);

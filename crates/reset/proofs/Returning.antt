@@ -14,7 +14,7 @@ use Rattle.model.specs.Lists.{altered}
 use Rattle.model.specs.Entries.{Keyed, entryLen, entryOf, listed}
 use Rattle.model.specs.Keys.{storedKey}
 use Rattle.model.specs.Changes.{changedEntry, changedKeyed}
-use Rattle.model.specs.Store.{Tally, begun, keyedWeighed, weightOf, reweighed, gained, stored-or-dropped, settled, merge, aboveCutoff}
+use Rattle.model.specs.Store.{Tally, noLoss, begun, keyedWeighed, weightOf, reweighed, gained, stored-or-dropped, settled, merge, aboveCutoff}
 use Rattle.model.specs.declared.Size.{Size}
 use Rattle.model.specs.declared.Found.{Found}
 use Rattle.model.specs.declared.Found.the-variants.{At, Nothing}
@@ -241,7 +241,7 @@ module _ {s : Size} {total count : ℕ} {threshold : Float} {i q : ℕ} {order w
       came-merged cutoff k =
           settles cutoff (At v) e Merged order w′ keys firsts k (c .long) (c .once) (still-noted (seenAt s order w) (seenAt s order w′) (c .noted) keys-stay)
           (λ z. never (cc))
-          (ap (λ (es : List Keyed). record { entries = es; merged = 1; stored = 0; dropped = 0 }) gained-picked)
+          (ap (λ (es : List Keyed). record { entries = es; merged = 1; stored = 0; dropped = 0; lost = noLoss }) gained-picked)
           (λ j b _ o. (elsewhere s total w w′ to sum l j b (λ z. o v below (sym z)), o))
 
   -- found nowhere
@@ -280,7 +280,7 @@ module _ {s : Size} {total count : ℕ} {threshold : Float} {i q : ℕ} {order w
           (one-noted (seenAt s order w) (seenAt s order′ w′) (c .noted) earlier-keys (omega (arith, few, c .long)) (o ∙ sym (ap storedKey last-seen)) x y)
           (λ z. never (cc))
           (rw a
-          (ap (λ (es : List Keyed). record { entries = es; merged = 0; stored = 1; dropped = 0 })
+          (ap (λ (es : List Keyed). record { entries = es; merged = 0; stored = 1; dropped = 0; lost = noLoss })
           (sym (picked-more s total w w′ i branch l count order fits (c .once) (c .apart) (c .inside) few))))
           (λ j b m z. (elsewhere s total w w′ i branch l j b m, each-more count i order few (λ (u : ℕ). u ≡ j → ⊥) z (λ u. m (sym u))))
 

@@ -19,7 +19,7 @@ use Rattle.changes.specs.Changes.{lossChange}
 use Rattle.seeking.specs.Noted.{seenAt, Noted}
 use Rattle.seeking.specs.declared.Sought.{Sought}
 use Rattle.merging.specs.Fates.{countBy, tallyBy}
-use Rattle.merging.specs.Progress.{tallyOf}
+use Rattle.merging.specs.Progress.{talliedBy, tallyOf}
 use Rattle.merging.specs.declared.Fate.the-variants.{NoRoom}
 use Rattle.merging.specs.declared.Progress.{Progress}
 use Rattle.merging.specs.declared.Settled.{Settled}
@@ -54,7 +54,7 @@ pub record Returned (s : Size) (total count : ℕ) (threshold cutoff : Float) (i
 
 -- the list so far, and what became of the branches
 abbrev pub tallyOn : Size → Progress → (order w : List ℕ) → Tally Keyed
-tallyOn s p order w = record { entries = picked s (p .count) order w; merged = p .merged; stored = p .stored; dropped = p .dropped }
+tallyOn s p order w = talliedBy p (picked s (p .count) order w)
 
 -- The branches bs are merged into the entries es, which left p: its entries stand at the places of `order`, of `total` in the store w.
 pub record Brought (s : Size) (total : ℕ) (threshold cutoff : Float) (es bs : List Keyed) (p : Progress) (order w : List ℕ) : Type 0 where

@@ -3,7 +3,7 @@
 mod call;
 
 pub use call::reset_loss_channel;
-pub use call::reset_number;
+pub use call::reset_loss_channel_known;
 use merging::Fate;
 use merging::Limits;
 use merging::Progress;
@@ -169,6 +169,7 @@ pub fn bring_all_back(
     while j < out {
         let place = left[j];
         let lost = LostEntry { place, qubit: q };
+        let weight = store[place * entries::entry_len(size)];
         let settled = bring_back(
             store,
             order,
@@ -179,7 +180,7 @@ pub fn bring_all_back(
             p.count,
             lost,
         );
-        p = merging::counted(p, settled);
+        p = merging::counted(p, settled, weight);
         j += 1;
     }
     p
@@ -225,5 +226,5 @@ pub fn run(h: Header, store: &mut [u64], q: usize) -> Answer
     };
     ready(store, size, count, h.dirty);
     let p = merge_lost(store, limits, count, q);
-    merging::answer(h, p.count, p)
+    merging::answer(h, p.count, p, 0.0)
 }

@@ -7,6 +7,8 @@ use model::Size;
 use options::Output;
 use second_pass::STACK_WORDS;
 use second_pass::Wanted;
+ghost use Rattle.model.specs.Calls.{held};
+ghost use Rattle.model.specs.Known.{Checked};
 
 // What the options say. `qubits` 0: as many as the circuit needs.
 pub struct Setup {
@@ -91,25 +93,21 @@ fn run_from(
     scratch: &mut [u64],
     h: Header,
     s: Setup,
-) -> bool {
+) -> bool
+    requires { ⌜ Checked (held h (now store)) ⌝ }
+{
     let mut stack = [0u64; STACK_WORDS];
-    let end = store.len();
-    if scratch.len() < end {
-        return false;
-    }
-    let trace = is_trace(s.output);
+    let output = s.output;
     let wanted = Wanted {
-        trace,
-        losses: trace || !s.quiet || s.most_lost < 1.0,
+        trace: is_trace(output),
         most_lost: s.most_lost,
     };
-    let copy = &mut scratch[0..end];
-    let r = second_pass::run_all(source, bytes, &mut stack, store, copy, h, wanted);
+    let r = second_pass::run_all(source, bytes, &mut stack, store, h, true, wanted);
     if !passes::is_done(r.pass) {
         messages::tell_run(name, bytes, r, &stack, store, scratch);
         return false;
     }
-    if !print(s.output, r.header, store) {
+    if !print(output, r.header, store) {
         return false;
     }
     if !outputs::say_if_empty(r.header) {
@@ -164,7 +162,7 @@ fn run_fresh(
     false
 }
 
-// .. and another one of the largest length, for what is lost.
+// .. and another one of the largest length, where it is tried by how much a call outgrew its room.
 fn run_in_stores(source: Source, name: &[u8], bytes: &mut [u8], n: usize, s: Setup) -> bool {
     let mut store = store_room();
     let mut scratch = store_room();

@@ -4,26 +4,37 @@ use model::Answer;
 use model::Header;
 use model::Size;
 ghost use mathlib.Core.Path.{_≡_};
-ghost use mathlib.Core.Bool.{true};
+ghost use mathlib.Core.Bool.{true, not, _&&_};
 ghost use Prim.Native.Nat.{_*_, _≤_};
-ghost use lib.Dec.{leb};
+ghost use lib.Dec.{eqb, leb};
 ghost use lib.ListN.{length};
 ghost use Rattle.model.specs.Lists.{groups, every};
 ghost use Rattle.model.specs.Calls as Calls;
 ghost use Rattle.model.specs.Calls.{held, gave};
-ghost use Rattle.perform.specs.Encoding as Encoding;
-ghost use Rattle.perform.specs.Encoding.{callWords};
+ghost use Rattle.model.specs.Known.{Checked, Known};
+ghost use Rattle.perform.specs.Encoding.{callWords, shownWords, fitting};
 ghost use Rattle.runs.specs.Runs as Runs;
-ghost use Rattle.runs.specs.Runs.{unfit, came, ranAll, ranOn, ranAfter, ranFrom, callsIn};
+ghost use Rattle.runs.specs.Runs.{recordLen, unfit, came, ranAll, ranOn, ranAfter, ranFrom, callsIn};
 ghost use Rattle.runs.specs.Promise.{Promise};
 
-// What a run gives: 0, and the header as the last call left it; DOES_NOT_FIT; or the number of a refused start.
+// What each call has room for: so many words behind the numbers of its record, for a table or a view (perform::SHOWN_WORDS, or 0 in a list
+// that has neither), and so many bytes of text, for a sheet or a page.
+#[repr(C)]
+pub struct Room {
+    pub shown: usize,
+    pub bytes: usize,
+}
+
+// What a run gives: 0, how many calls were made, and the header as the last one left it; DOES_NOT_FIT; or the number of a refused start.
+#[repr(C)]
 pub struct Ran {
     pub number: u64,
+    pub made: usize,
     pub header: Header,
 }
 
-// The number of a run that does not fit: its words are no whole calls of known kinds, or log or text is too short for them. No call gives it.
+// The number of a run that does not fit: its words are no whole calls of known kinds, or records, log or text are too short for them. No
+// call gives it.
 pub const DOES_NOT_FIT: u64 = 19;
 
 // ---- what is there for a run
@@ -38,15 +49,15 @@ fn enough(room: usize, each: usize, count: usize) -> bool
     count <= room / each
 }
 
-// Every call has a known kind.
-fn all_known(calls: &[u64], count: usize) -> bool
+// Every call has a known kind, and a record that can show what it may show.
+fn all_fitting(calls: &[u64], count: usize, shown: usize) -> bool
     requires { ⌜ count * callWords ≤ length (now calls) ⌝ }
-    ensures { λ r. ⌜ r ≡ every Encoding.known (groups callWords count (now (calls .entry))) ⌝ }
+    ensures { λ r. ⌜ r ≡ every (fitting shown) (groups callWords count (now (calls .entry))) ⌝ }
 {
     let mut i = 0;
     while i < count {
         let call = words::stretch(calls, perform::CALL_WORDS, i);
-        if !perform::known(call) {
+        if !perform::fitting(call, shown) {
             return false;
         }
         i += 1;
@@ -54,73 +65,120 @@ fn all_known(calls: &[u64], count: usize) -> bool
     true
 }
 
-// Whole calls of known kinds, with a record and a stretch of text for each.
-fn fits(calls: &[u64], log: usize, text: usize, bytes: usize) -> bool
-    ensures { λ r. ⌜ r ≡ Runs.fits bytes (now (calls .entry)) log text ⌝ }
+// The words of a record.
+fn record_len(room: Room) -> usize
+    requires { ⌜ room .shown ≤ shownWords ⌝ }
+    ensures { λ r. ⌜ r ≡ recordLen room ⌝ }
+{
+    perform::NUMBER_WORDS + room.shown
+}
+
+// Whole calls of known kinds that can show what they may show, with a record and a stretch of text for each.
+fn fits(calls: &[u64], log: usize, text: usize, room: Room) -> bool
+    ensures { λ r. ⌜ r ≡ Runs.fits room (now (calls .entry)) log text ⌝ }
 {
     let words = calls.len();
     let count = words / perform::CALL_WORDS;
     if words % perform::CALL_WORDS != 0 {
         return false;
     }
-    if !enough(log, perform::RECORD_WORDS, count) {
+    if perform::SHOWN_WORDS < room.shown {
         return false;
     }
-    if !enough(text, bytes, count) {
+    if !enough(log, record_len(room), count) {
         return false;
     }
-    all_known(calls, count)
+    if !enough(text, room.bytes, count) {
+        return false;
+    }
+    all_fitting(calls, count, room.shown)
 }
 
 // ---- runs
 
-// All calls, in order, each given header and store as the last one left them.
+// A refusal ends the run.
+fn ends(stop: bool, number: u64) -> bool
+    ensures { λ r. ⌜ r ≡ (stop && not (eqb number 0)) ⌝ }
+{
+    if stop {
+        return number != 0;
+    }
+    false
+}
+
+// All calls, in order, each given header and store as the last one left them; with `stop`, up to the first that is refused. The bodies are
+// looked through until a call is accepted, and not again.
 fn run_calls(
     h: Header,
     store: &mut [u64],
     calls: &[u64],
     log: &mut [u64],
     text: &mut [u8],
-    bytes: usize,
+    room: Room,
+    stop: bool,
+    known: bool,
 ) -> Ran
-    requires { ⌜ Runs.fits bytes (now calls) (length (now log)) (length (now text)) ≡ true ⌝ }
-    ensures { λ r. ⌜ came r (now (store .exit)) (now (log .exit)) (now (text .exit)) ≡ ranAll bytes (callsIn bytes (now (calls .entry))) (held h (now (store .entry))) (now (log .entry)) (now (text .entry)) ⌝ }
+    requires { ⌜ (Runs.fits room (now calls) (length (now log)) (length (now text)) ≡ true) × Known known (held h (now store)) ⌝ }
+    ensures { λ r. ⌜ came r (now (store .exit)) (now (log .exit)) (now (text .exit)) ≡ ranAll room stop (callsIn (room .bytes) (now (calls .entry))) (held h (now (store .entry))) (now (log .entry)) (now (text .entry)) ⌝ }
 {
     let count = calls.len() / perform::CALL_WORDS;
-    let mut last = h;
+    let words = record_len(room);
+    let bytes = room.bytes;
+    let mut header = h;
+    let mut sure = known;
     let mut made = 0;
     while made < count {
         let call = words::stretch(calls, perform::CALL_WORDS, made);
-        let from = made * perform::RECORD_WORDS;
-        let to = from + perform::RECORD_WORDS;
+        let from = made * words;
+        let to = from + words;
         let at = made * bytes;
         let end = at + bytes;
-        last = perform::perform(last, store, call, &mut log[from..to], &mut text[at..end]);
+        let a = perform::perform(
+            header,
+            store,
+            call,
+            &mut log[from..to],
+            &mut text[at..end],
+            sure,
+        );
+        header = a.header;
+        sure = checks::known_after(sure, a.number);
         made += 1;
+        if ends(stop, a.number) {
+            return Ran {
+                number: 0,
+                made,
+                header,
+            };
+        }
     }
     Ran {
         number: 0,
-        header: last,
+        made,
+        header,
     }
 }
 
-// The calls on the sum that a header and a store hold, sound or not. Call i has record i of `log`, 588 words, and stretch i of `text`,
-// `bytes` bytes. DOES_NOT_FIT comes with the header as given, and nothing changed.
+// The calls on the sum that a header and a store hold, sound or not: all of them or, with `stop`, those up to the first that is refused. A
+// refused call changes nothing but its record. Call i has record i of `log`, 11 words and those it has room to show, and stretch i of
+// `text`. DOES_NOT_FIT comes with the header as given, and nothing changed.
 pub fn run(
     h: Header,
     store: &mut [u64],
     calls: &[u64],
     log: &mut [u64],
     text: &mut [u8],
-    bytes: usize,
+    room: Room,
+    stop: bool,
 ) -> Ran
-    ensures { λ r. ⌜ came r (now (store .exit)) (now (log .exit)) (now (text .exit)) ≡ ranOn bytes (now (calls .entry)) (held h (now (store .entry))) (now (log .entry)) (now (text .entry)) ⌝ }
+    ensures { λ r. ⌜ came r (now (store .exit)) (now (log .exit)) (now (text .exit)) ≡ ranOn room stop (now (calls .entry)) (held h (now (store .entry))) (now (log .entry)) (now (text .entry)) ⌝ }
 {
-    if fits(calls, log.len(), text.len(), bytes) {
-        return run_calls(h, store, calls, log, text, bytes);
+    if fits(calls, log.len(), text.len(), room) {
+        return run_calls(h, store, calls, log, text, room, stop, false);
     }
     Ran {
         number: DOES_NOT_FIT,
+        made: 0,
         header: h,
     }
 }
@@ -133,6 +191,7 @@ fn unfit_run() -> Ran
 {
     Ran {
         number: DOES_NOT_FIT,
+        made: 0,
         header: answers::zero_header(),
     }
 }
@@ -144,17 +203,21 @@ fn run_after(
     calls: &[u64],
     log: &mut [u64],
     text: &mut [u8],
-    bytes: usize,
+    room: Room,
 ) -> Ran
-    requires { ⌜ Runs.fits bytes (now calls) (length (now log)) (length (now text)) ≡ true ⌝ }
-    ensures { λ r. ⌜ came r (now (store .exit)) (now (log .exit)) (now (text .exit)) ≡ ranAfter bytes (callsIn bytes (now (calls .entry))) (gave a (now (store .entry))) (now (log .entry)) (now (text .entry)) ⌝ }
+    requires { ⌜ (Runs.fits room (now calls) (length (now log)) (length (now text)) ≡ true) × (a .number ≡ 0 → Checked (held (a .header) (now store))) ⌝ }
+    ensures { λ r. ⌜ came r (now (store .exit)) (now (log .exit)) (now (text .exit)) ≡ ranAfter room (callsIn (room .bytes) (now (calls .entry))) (gave a (now (store .entry))) (now (log .entry)) (now (text .entry)) ⌝ }
 {
     let number = a.number;
     let header = a.header;
     if number != 0 {
-        return Ran { number, header };
+        return Ran {
+            number,
+            made: 0,
+            header,
+        };
     }
-    run_calls(header, store, calls, log, text, bytes)
+    run_calls(header, store, calls, log, text, room, false, true)
 }
 
 // A fresh sum, and then the calls on it. DOES_NOT_FIT first; then 1 and 2, as `fresh` gives them; with any of them a header of zeros, and
@@ -167,16 +230,16 @@ pub fn run_fresh(
     calls: &[u64],
     log: &mut [u64],
     text: &mut [u8],
-    bytes: usize,
+    room: Room,
 ) -> Ran
-    ensures exact { λ r. ⌜ came r (now (store .exit)) (now (log .exit)) (now (text .exit)) ≡ ranFrom bytes (now (calls .entry)) (Calls.fresh size threshold cutoff) (now (store .entry)) (now (log .entry)) (now (text .entry)) ⌝ }
-    ensures promise { λ r. ⌜ Promise bytes (now (calls .entry)) (Calls.fresh size threshold cutoff) (now (store .entry)) (now (log .entry)) (now (text .entry)) (came r (now (store .exit)) (now (log .exit)) (now (text .exit))) ⌝ }
+    ensures exact { λ r. ⌜ came r (now (store .exit)) (now (log .exit)) (now (text .exit)) ≡ ranFrom room (now (calls .entry)) (Calls.fresh size threshold cutoff) (now (store .entry)) (now (log .entry)) (now (text .entry)) ⌝ }
+    ensures promise { λ r. ⌜ Promise room (now (calls .entry)) (Calls.fresh size threshold cutoff) (now (store .entry)) (now (log .entry)) (now (text .entry)) (came r (now (store .exit)) (now (log .exit)) (now (text .exit))) ⌝ }
 {
-    if !fits(calls, log.len(), text.len(), bytes) {
+    if !fits(calls, log.len(), text.len(), room) {
         return unfit_run();
     }
     let a = fresh::fresh(size, threshold, cutoff, store);
-    run_after(a, store, calls, log, text, bytes)
+    run_after(a, store, calls, log, text, room)
 }
 
 // The sum of a sheet, and then the calls on it. DOES_NOT_FIT first; then 7, 1, 2 and 5, as `read_sheet` gives them; with any of them a
@@ -187,14 +250,14 @@ pub fn run_sheet(
     calls: &[u64],
     log: &mut [u64],
     text: &mut [u8],
-    bytes: usize,
+    room: Room,
 ) -> Ran
-    ensures exact { λ r. ⌜ came r (now (store .exit)) (now (log .exit)) (now (text .exit)) ≡ ranFrom bytes (now (calls .entry)) (Calls.read (now (sheet .entry))) (now (store .entry)) (now (log .entry)) (now (text .entry)) ⌝ }
-    ensures promise { λ r. ⌜ Promise bytes (now (calls .entry)) (Calls.read (now (sheet .entry))) (now (store .entry)) (now (log .entry)) (now (text .entry)) (came r (now (store .exit)) (now (log .exit)) (now (text .exit))) ⌝ }
+    ensures exact { λ r. ⌜ came r (now (store .exit)) (now (log .exit)) (now (text .exit)) ≡ ranFrom room (now (calls .entry)) (Calls.read (now (sheet .entry))) (now (store .entry)) (now (log .entry)) (now (text .entry)) ⌝ }
+    ensures promise { λ r. ⌜ Promise room (now (calls .entry)) (Calls.read (now (sheet .entry))) (now (store .entry)) (now (log .entry)) (now (text .entry)) (came r (now (store .exit)) (now (log .exit)) (now (text .exit))) ⌝ }
 {
-    if !fits(calls, log.len(), text.len(), bytes) {
+    if !fits(calls, log.len(), text.len(), room) {
         return unfit_run();
     }
     let a = reader::read_sheet(sheet, store);
-    run_after(a, store, calls, log, text, bytes)
+    run_after(a, store, calls, log, text, room)
 }

@@ -7,7 +7,6 @@ use circuit::Act;
 use circuit::Item;
 use circuit::Line;
 use circuit::Seen;
-use drops::Lost;
 use input::Found;
 use input::Source;
 use model::Answer;
@@ -15,8 +14,15 @@ use model::Header;
 use passes::Outcome;
 use passes::Pass;
 ghost use mathlib.Core.Path.{_≡_};
+ghost use mathlib.Core.Bool.{true};
 ghost use Prim.Native.Nat.{_≤_};
 ghost use lib.ListN.{length};
+ghost use Rattle.model.specs.Calls.{held, step};
+ghost use Rattle.model.specs.Known.{Known, knownAfter};
+ghost use Rattle.model.specs.Demand3.{next};
+ghost use Rattle.passes.specs.Going.{isGoing};
+ghost use Rattle.calls.specs.Instructions.{callOn};
+ghost use Rattle.second_pass.specs.Lines.{callsOf, lineCalls, Made, Next, Passed};
 
 // What the calls so far came to.
 pub struct Totals {
@@ -29,17 +35,17 @@ pub struct Totals {
     pub lost: f64,
 }
 
-// The pass, the sum's header, and what the calls came to.
+// The pass, the sum's header, whether all but its weights is known to be sound, and what the calls came to.
 pub struct Run {
     pub pass: Pass,
     pub header: Header,
+    pub known: bool,
     pub totals: Totals,
 }
 
-// What is wanted besides the sum: a line for each call, the weight that is lost; and how much of it may be.
+// What is wanted besides the sum: a line for each call; and how much of the initial weight may be lost.
 pub struct Wanted {
     pub trace: bool,
-    pub losses: bool,
     pub most_lost: f64,
 }
 
@@ -65,140 +71,111 @@ fn added(t: Totals, a: Answer, lost: f64) -> Totals {
 }
 
 fn with_pass(r: Run, pass: Pass) -> Run
-    ensures { λ a. ⌜ (a .pass .window .from ≡ pass .window .from) × (a .pass .window .to ≡ pass .window .to) ⌝ }
+    ensures { λ a. ⌜ (a .pass ≡ pass) × (a .header ≡ r .header) × (a .known ≡ r .known) ⌝ }
 {
     let header = r.header;
     let totals = r.totals;
     Run {
         pass,
         header,
+        known: r.known,
         totals,
     }
 }
 
-fn ended(r: Run, outcome: Outcome, from: usize, to: usize) -> Run {
+fn ended(r: Run, outcome: Outcome, from: usize, to: usize) -> Run
+    ensures { λ a. ⌜ (a .pass .outcome ≡ outcome) × (a .header ≡ r .header) × (a .known ≡ r .known) ⌝ }
+{
     with_pass(r, passes::ended(r.pass, outcome, from, to))
 }
 
 // ---- calls
 
-// The weights that a call loses, and what has been lost of the initial weight after it.
-struct Losses {
-    here: Lost,
-    all: f64,
+// What has been lost of the initial weight after a call on a sum of this total.
+fn lost_after(lost: f64, a: Answer, total: f64) -> f64 {
+    let counts = a.counts;
+    let header = a.header;
+    calls::lost_after(lost, a.lost, total, 0 < counts.dropped, header.count)
 }
 
-fn losses_of(h: Header, scratch: &mut [u64], o: Operation, a: Answer, lost: f64) -> Losses {
-    if calls::has_lost(h, a) {
-        let counts = a.counts;
-        let total = calls::total(scratch, h);
-        let after = a.header;
-        let here = calls::losses(h, scratch, o);
-        return Losses {
-            here,
-            all: calls::lost_after(lost, here, total, 0 < counts.dropped, after.count),
-        };
+// The weight that a call can lose a part of; 0 before one that can lose nothing.
+fn weight_at_stake(r: Run, store: &[u64], act: Act) -> f64
+    requires { ⌜ Known (r .known) (held (r .header) (now store)) ⌝ }
+{
+    if calls::can_lose(act) {
+        return calls::total(store, r.header, r.known);
     }
-    Losses {
-        here: calls::no_loss(),
-        all: lost,
-    }
+    0.0
 }
 
-// The answer, and what it lost.
-struct Made {
-    answer: Answer,
-    losses: Losses,
-}
-
-// The call is made; before it, where losses are wanted, the store is copied.
-fn make(
-    h: Header,
-    store: &mut [u64],
-    scratch: &mut [u64],
-    o: Operation,
-    lost: f64,
-    wanted: bool,
-) -> Made {
-    if !wanted {
-        let answer = calls::make(h, store, o);
-        return Made {
-            answer,
-            losses: Losses {
-                here: calls::no_loss(),
-                all: lost,
-            },
-        };
-    }
-    calls::copy(scratch, store);
-    let answer = calls::make(h, store, o);
-    Made {
-        answer,
-        losses: losses_of(h, scratch, o, answer, lost),
-    }
-}
-
-// The run after a call, which may have lost too much.
-fn judged(r: Run, l: Line, lost: f64, most: f64) -> Run {
-    if most < lost {
-        return ended(r, Outcome::TooMuchLost(lost), l.from, l.to);
-    }
-    r
-}
-
-// The run after a call.
-fn after_call(r: Run, l: Line, o: Operation, m: Made, written: bool, most: f64) -> Run {
-    let a = m.answer;
-    let losses = m.losses;
-    if a.number != 0 {
-        return ended(r, Outcome::Refused(a.number, o.p, o.q), l.from, l.to);
-    }
-    if !written {
-        return ended(r, Outcome::Unwritten, 0, 0);
-    }
+// The run with its sum as a call left it.
+fn with_answer(r: Run, a: Answer) -> Run
+    ensures { λ b. ⌜ (b .header ≡ a .header) × (b .known ≡ knownAfter (r .known) (a .number)) ⌝ }
+{
     let pass = r.pass;
     let header = a.header;
+    let totals = r.totals;
+    Run {
+        pass,
+        header,
+        known: checks::known_after(r.known, a.number),
+        totals,
+    }
+}
+
+// .. and with what that call came to. It may have lost too much.
+fn with_totals(r: Run, l: Line, a: Answer, lost: f64, most: f64) -> Run
+    ensures { λ b. ⌜ (b .header ≡ r .header) × (b .known ≡ r .known) ⌝ }
+{
+    let pass = r.pass;
+    let header = r.header;
     let next = Run {
         pass,
         header,
-        totals: added(r.totals, a, losses.all),
+        known: r.known,
+        totals: added(r.totals, a, lost),
     };
-    judged(next, l, losses.all, most)
+    if most < lost {
+        return ended(next, Outcome::TooMuchLost(lost), l.from, l.to);
+    }
+    next
 }
 
 // One call, on a qubit or a pair.
-fn call(
-    line: &[u8],
-    l: Line,
-    o: Operation,
-    store: &mut [u64],
-    scratch: &mut [u64],
-    r: Run,
-    wanted: Wanted,
-) -> Run {
+fn call(line: &[u8], l: Line, o: Operation, store: &mut [u64], r: Run, wanted: Wanted) -> Run
+    requires { ⌜ Known (r .known) (held (r .header) (now store)) ⌝ }
+    ensures is { λ a. ⌜ held (a .header) (now (store .exit)) ≡ next (step (callOn o) (held (r .header) (now (store .entry)))) ⌝ }
+    ensures goes { λ a. ⌜ (isGoing (a .pass) ≡ true → step (callOn o) (held (r .header) (now (store .entry))) .answer .number ≡ 0) ⌝ }
+    ensures known { λ a. ⌜ Known (a .known) (held (a .header) (now (store .exit))) ⌝ }
+{
+    let before = r.totals;
     let pass = r.pass;
-    let totals = r.totals;
     let act = o.act;
-    let needed = wanted.losses && calls::can_lose(act);
-    let m = make(r.header, store, scratch, o, totals.lost, needed);
-    let losses = m.losses;
-    let mut written = true;
-    if wanted.trace {
-        written = trace::write(pass.line, line, l, o, m.answer, losses.here);
+    let total = weight_at_stake(r, store, act);
+    let a = calls::make(r.header, store, o, r.known);
+    let next = with_answer(r, a);
+    let written = trace::write_if(wanted.trace, pass.line, line, l, o, a);
+    if a.number != 0 {
+        return ended(next, Outcome::Refused(a.number, o.p, o.q), l.from, l.to);
     }
-    after_call(r, l, o, m, written, wanted.most_lost)
+    if !written {
+        return ended(next, Outcome::Unwritten, 0, 0);
+    }
+    with_totals(
+        next,
+        l,
+        a,
+        lost_after(before.lost, a, total),
+        wanted.most_lost,
+    )
 }
 
 // The calls of a line, target by target.
-fn run_targets(
-    line: &[u8],
-    l: Line,
-    act: Act,
-    store: &mut [u64],
-    scratch: &mut [u64],
-    r: Run,
-    wanted: Wanted,
-) -> Run {
+fn run_targets(line: &[u8], l: Line, act: Act, store: &mut [u64], r: Run, wanted: Wanted) -> Run
+    requires { ⌜ Known (r .known) (held (r .header) (now store)) ⌝ }
+    ensures is { λ a. ⌜ Made (callsOf act (l .rates) (now (line .entry)) (l .targets)) (held (r .header) (now (store .entry))) (held (a .header) (now (store .exit))) (isGoing (a .pass)) ⌝ }
+    ensures known { λ a. ⌜ Known (a .known) (held (a .header) (now (store .exit))) ⌝ }
+{
     let pairs = circuit::takes_pairs(act);
     let rates = l.rates;
     let mut run = r;
@@ -210,7 +187,7 @@ fn run_targets(
             return run;
         };
         let o = Operation { act, rates, p, q };
-        run = call(line, l, o, store, scratch, run, wanted);
+        run = call(line, l, o, store, run, wanted);
         if !passes::is_going(run.pass) {
             return run;
         }
@@ -224,10 +201,13 @@ fn run_item(
     line: &[u8],
     stack: &mut [u64; STACK_WORDS],
     store: &mut [u64],
-    scratch: &mut [u64],
     r: Run,
     wanted: Wanted,
-) -> Run {
+) -> Run
+    requires { ⌜ Known (r .known) (held (r .header) (now store)) ⌝ }
+    ensures is { λ a. ⌜ Made (lineCalls (now (line .entry))) (held (r .header) (now (store .entry))) (held (a .header) (now (store .exit))) (isGoing (a .pass)) ⌝ }
+    ensures known { λ a. ⌜ Known (a .known) (held (a .header) (now (store .exit))) ⌝ }
+{
     let l = circuit::parse(line);
     let item = l.item;
     let totals = r.totals;
@@ -235,7 +215,7 @@ fn run_item(
     match item {
         Item::Nothing => r,
         Item::Bad(fault) => ended(r, Outcome::Bad(fault), l.from, l.to),
-        Item::Call(act) => run_targets(line, l, act, store, scratch, r, wanted),
+        Item::Call(act) => run_targets(line, l, act, store, r, wanted),
         Item::Repeat(times) => {
             with_pass(r, blocks::opened(stack, r.pass, times, made, l.from, l.to))
         }
@@ -248,11 +228,12 @@ fn run_found(
     bytes: &[u8],
     stack: &mut [u64; STACK_WORDS],
     store: &mut [u64],
-    scratch: &mut [u64],
     r: Run,
     wanted: Wanted,
 ) -> Run
-    requires { ⌜ (r .pass .window .from ≤ r .pass .window .to) × (r .pass .window .to ≤ length (now bytes)) ⌝ }
+    requires { ⌜ (r .pass .window .from ≤ r .pass .window .to) × (r .pass .window .to ≤ length (now bytes)) × Known (r .known) (held (r .header) (now store)) ⌝ }
+    ensures is { λ a. ⌜ Next (held (r .header) (now (store .entry))) (held (a .header) (now (store .exit))) (isGoing (a .pass)) ⌝ }
+    ensures known { λ a. ⌜ Known (a .known) (held (a .header) (now (store .exit))) ⌝ }
 {
     let pass = r.pass;
     let window = pass.window;
@@ -260,7 +241,7 @@ fn run_found(
     let from = window.from;
     let to = window.to;
     match found {
-        Found::Line => run_item(&bytes[from..to], stack, store, scratch, r, wanted),
+        Found::Line => run_item(&bytes[from..to], stack, store, r, wanted),
         Found::End => ended(r, Outcome::Done, 0, 0),
         Found::TooLong => ended(r, Outcome::TooLong, 0, 0),
         Found::Failed => ended(r, Outcome::Failed, 0, 0),
@@ -274,21 +255,27 @@ fn run_line(
     bytes: &mut [u8],
     stack: &mut [u64; STACK_WORDS],
     store: &mut [u64],
-    scratch: &mut [u64],
     r: Run,
     wanted: Wanted,
-) -> Run {
+) -> Run
+    requires { ⌜ Known (r .known) (held (r .header) (now store)) ⌝ }
+    ensures is { λ a. ⌜ Next (held (r .header) (now (store .entry))) (held (a .header) (now (store .exit))) (isGoing (a .pass)) ⌝ }
+    ensures known { λ a. ⌜ Known (a .known) (held (a .header) (now (store .exit))) ⌝ }
+{
     let before = r.pass;
     let window = input::next_line(s, bytes, before.window);
     let next = with_pass(r, passes::moved(before, window));
-    run_found(bytes, stack, store, scratch, next, wanted)
+    run_found(bytes, stack, store, next, wanted)
 }
 
 // A sum that is empty from the start has lost everything.
-fn start(header: Header) -> Run {
+fn start(header: Header, known: bool) -> Run
+    ensures { λ r. ⌜ (isGoing (r .pass) ≡ true) × (r .header ≡ header) × (r .known ≡ known) ⌝ }
+{
     Run {
         pass: passes::start(),
         header,
+        known,
         totals: Totals {
             calls: 0,
             merged: 0,
@@ -300,20 +287,24 @@ fn start(header: Header) -> Run {
     }
 }
 
-// The whole circuit. `stack` has the blocks that are open where it ends.
+// The whole circuit, told whether all but the weights is known to be sound: what is left of the sum are the calls of the lines that were
+// read, made on it in order, up to the first that was refused. `stack` has the blocks that are open where it ends.
 pub fn run_all(
     s: Source,
     bytes: &mut [u8],
     stack: &mut [u64; STACK_WORDS],
     store: &mut [u64],
-    scratch: &mut [u64],
     header: Header,
+    known: bool,
     wanted: Wanted,
-) -> Run {
-    let mut r = start(header);
+) -> Run
+    requires { ⌜ Known known (held header (now store)) ⌝ }
+    ensures { λ r. ⌜ Passed (held header (now (store .entry))) (held (r .header) (now (store .exit))) (isGoing (r .pass)) ⌝ }
+{
+    let mut r = start(header, known);
     let mut turns = u64::MAX;
     while turns > 0 {
-        r = run_line(s, bytes, stack, store, scratch, r, wanted);
+        r = run_line(s, bytes, stack, store, r, wanted);
         if !passes::is_going(r.pass) {
             return r;
         }

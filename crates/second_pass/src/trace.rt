@@ -2,7 +2,6 @@
 use calls::Operation;
 use circuit::Act;
 use circuit::Line;
-use drops::Lost;
 use libc::STDOUT_FILENO;
 use model::Answer;
 use model::Channel;
@@ -60,9 +59,10 @@ fn put_counts(row: &mut [u8; 256], from: usize, a: Answer) -> usize {
 }
 
 // The line of a call. Whether it was written.
-pub fn write(number: u64, line: &[u8], l: Line, o: Operation, a: Answer, lost: Lost) -> bool {
+fn write(number: u64, line: &[u8], l: Line, o: Operation, a: Answer) -> bool {
     let act = o.act;
     let header = a.header;
+    let lost = a.lost;
     let mut row = printing::row();
     let name = printing::put_number(&mut row, 0, number, 6);
     let qubits = printing::after(name, put_name(&mut row, name, line, l, act), 16);
@@ -72,4 +72,12 @@ pub fn write(number: u64, line: &[u8], l: Line, o: Operation, a: Answer, lost: L
     let end = printing::put_float(&mut row, weights, lost.dropped);
     let last = printing::put_float(&mut row, end, lost.truncated);
     printing::write(STDOUT_FILENO, &mut row, last)
+}
+
+// .. if it is wanted.
+pub fn write_if(wanted: bool, number: u64, line: &[u8], l: Line, o: Operation, a: Answer) -> bool {
+    if wanted {
+        return write(number, line, l, o, a);
+    }
+    true
 }

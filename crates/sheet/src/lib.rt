@@ -10,6 +10,7 @@ ghost use Rattle.model.specs.Lists.{groups, joined};
 ghost use Rattle.model.specs.Entries.{headLen, coefsLen, entryLen, entryOf, strip, listed};
 ghost use Rattle.model.specs.Sheet.{justified, line, lineLen, sheetText};
 ghost use Rattle.model.specs.Calls as Calls;
+ghost use Rattle.model.specs.Known.{Known};
 ghost use Rattle.entries.specs.Within.{Within};
 ghost use Rattle.model.specs.Sound.{Sound};
 ghost use Rattle.sheet.specs.Text.{entryText, entriesText, sheetOn};
@@ -182,7 +183,16 @@ pub fn write_sheet(h: Header, store: &[u64], out: &mut [u8]) -> Answer
     ensures answer { λ r. ⌜ r ≡ Calls.step (Calls.sheet (length (now (out .entry)))) (Calls.held h (now (store .entry))) .answer ⌝ }
     ensures output { λ _. ⌜ now (out .exit) ≡ Calls.overlaid (Calls.step (Calls.sheet (length (now (out .entry)))) (Calls.held h (now (store .entry))) .output) (now (out .entry)) ⌝ }
 {
-    let number = checks::front(h, store, 0);
+    write_sheet_known(h, store, out, false)
+}
+
+// .. told whether all but the weights is known to be sound.
+pub fn write_sheet_known(h: Header, store: &[u64], out: &mut [u8], known: bool) -> Answer
+    requires { ⌜ Known known (Calls.held h (now store)) ⌝ }
+    ensures answer { λ r. ⌜ r ≡ Calls.step (Calls.sheet (length (now (out .entry)))) (Calls.held h (now (store .entry))) .answer ⌝ }
+    ensures output { λ _. ⌜ now (out .exit) ≡ Calls.overlaid (Calls.step (Calls.sheet (length (now (out .entry)))) (Calls.held h (now (store .entry))) .output) (now (out .entry)) ⌝ }
+{
+    let number = checks::front(h, store, 0, known);
     if number != 0 {
         return answers::plain_answer(h, number);
     }

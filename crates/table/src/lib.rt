@@ -12,6 +12,7 @@ ghost use Rattle.model.specs.Entries.{strip, listed};
 ghost use Rattle.model.specs.Numbers.{weightSound, drawSound};
 ghost use Rattle.model.specs.Table as Table;
 ghost use Rattle.model.specs.Calls as Calls;
+ghost use Rattle.model.specs.Known.{Known};
 ghost use Rattle.model.specs.Sound.{Sound};
 ghost use Rattle.table.specs.Pairs.{pair, pairs, heavier, Falls};
 
@@ -96,9 +97,18 @@ pub fn table(h: Header, store: &[u64], out: &mut [u64]) -> Answer
     ensures answer { λ r. ⌜ r ≡ Calls.step (Calls.table (length (now (out .entry)))) (Calls.held h (now (store .entry))) .answer ⌝ }
     ensures output { λ _. ⌜ now (out .exit) ≡ Calls.overlaid (Calls.step (Calls.table (length (now (out .entry)))) (Calls.held h (now (store .entry))) .output) (now (out .entry)) ⌝ }
 {
+    table_known(h, store, out, false)
+}
+
+// .. told whether all but the weights is known to be sound.
+pub fn table_known(h: Header, store: &[u64], out: &mut [u64], known: bool) -> Answer
+    requires { ⌜ Known known (Calls.held h (now store)) ⌝ }
+    ensures answer { λ r. ⌜ r ≡ Calls.step (Calls.table (length (now (out .entry)))) (Calls.held h (now (store .entry))) .answer ⌝ }
+    ensures output { λ _. ⌜ now (out .exit) ≡ Calls.overlaid (Calls.step (Calls.table (length (now (out .entry)))) (Calls.held h (now (store .entry))) .output) (now (out .entry)) ⌝ }
+{
     let size = h.size;
     let count = h.count;
-    let number = checks::front(h, store, 0);
+    let number = checks::front(h, store, 0, known);
     if number != 0 {
         return answers::plain_answer(h, number);
     }
@@ -169,9 +179,17 @@ fn pick_place(store: &[u64], size: Size, count: usize, draw: f64) -> u64
 pub fn pick(h: Header, store: &[u64], draw: f64) -> Answer
     ensures { λ r. ⌜ r ≡ Calls.step (Calls.pick draw) (Calls.held h (now (store .entry))) .answer ⌝ }
 {
+    pick_known(h, store, draw, false)
+}
+
+// .. told whether all but the weights is known to be sound.
+pub fn pick_known(h: Header, store: &[u64], draw: f64, known: bool) -> Answer
+    requires { ⌜ Known known (Calls.held h (now store)) ⌝ }
+    ensures { λ r. ⌜ r ≡ Calls.step (Calls.pick draw) (Calls.held h (now (store .entry))) .answer ⌝ }
+{
     let size = h.size;
     let count = h.count;
-    let number = checks::front(h, store, 0);
+    let number = checks::front(h, store, 0, known);
     if number != 0 {
         return answers::plain_answer(h, number);
     }

@@ -1,18 +1,21 @@
-// The calls of document 01, and the page of document 02, for programs in C and Rust: what `rt staticlib tableau_sum` puts into
-// libtableau_sum.a. Each makes one call of another crate and promises what that promises. A slice is passed as a pointer and a length, the
-// structs as C lays them out; a call takes its header and store first, then qubits, then rates. After each call, the numbers it can give
-// besides 0.
+// The calls of document 01, and the page of document 02, for programs in C and Rust, one by one or a list of them at once: what
+// `rt staticlib tableau_sum` puts into libtableau_sum.a. Each function makes one call of another crate and promises what that promises. A slice
+// is passed as a pointer and a length, the structs as C lays them out; a call takes its header and store first, then qubits, then rates. After
+// each call, the numbers it can give besides 0.
 use model::Answer;
 use model::Channel;
 use model::Gate;
 use model::Header;
 use model::Size;
+use runs::Ran;
+use runs::Room;
 ghost use mathlib.Core.Path.{_≡_};
 ghost use lib.ListN.{length, getD};
 ghost use Rattle.model.specs.Channels.{one, two};
 ghost use Rattle.model.specs.Channels as Channels;
 ghost use Rattle.model.specs.Calls as Calls;
 ghost use Rattle.model.specs.Calls.{held, gave, step, start, overlaid};
+ghost use Rattle.runs.specs.Runs.{came, ranOn};
 
 // ---- a sum begins
 
@@ -211,4 +214,23 @@ pub extern "C" fn tableau_sum_view_word(h: Header, store: &[u64], place: usize, 
     ensures { λ r. ⌜ r ≡ getD (step (Calls.view place) (held h (now (store .entry))) .output) i 0 ⌝ }
 {
     view::view_word(h, store, place, i)
+}
+
+// ---- a list of calls
+
+// The calls that these words say, in order, each with a record in `log` and a stretch of `text`: all of them or, with `stop`, those up to the
+// first that is refused. 19; what each call gave is in its record.
+#[no_mangle]
+pub extern "C" fn tableau_sum_run(
+    h: Header,
+    store: &mut [u64],
+    calls: &[u64],
+    log: &mut [u64],
+    text: &mut [u8],
+    room: Room,
+    stop: bool,
+) -> Ran
+    ensures { λ r. ⌜ came r (now (store .exit)) (now (log .exit)) (now (text .exit)) ≡ ranOn room stop (now (calls .entry)) (held h (now (store .entry))) (now (log .entry)) (now (text .entry)) ⌝ }
+{
+    runs::run(h, store, calls, log, text, room, stop)
 }

@@ -67,3 +67,20 @@ pub fn read_item(text: &[u8], at: usize, item: &mut [u64]) -> usize {
     }
     end
 }
+
+// So many calls from a place on, as far as there is room for their words. The place behind them is the answer.
+pub fn read_calls(text: &[u8], from: usize, count: usize, calls: &mut [u64]) -> usize {
+    let mut at = from;
+    let mut start = 0;
+    let mut i: usize = 0;
+    while i < count {
+        if calls.len() - start < crate::CALL_WORDS {
+            return at;
+        }
+        let end = start + crate::CALL_WORDS;
+        at = read_item(text, at, &mut calls[start..end]);
+        start = end;
+        i += 1;
+    }
+    at
+}

@@ -5,9 +5,26 @@ mod given;
 mod large;
 
 pub use given::put_word;
+pub use given::read_calls;
 pub use given::read_item;
 pub use given::skip;
 pub use large::lay_large;
+
+// As crates/perform has them: the words of a call, the numbers of its record, and what a table or a view shows behind these.
+pub const CALL_WORDS: usize = 18;
+
+pub const NUMBER_WORDS: usize = 11;
+
+pub const SHOWN_WORDS: usize = 581;
+
+pub const RECORD_WORDS: usize = NUMBER_WORDS + SHOWN_WORDS;
+
+// The most calls of a list, and the words of these and of their records.
+pub const MOST_CALLS: usize = 64;
+
+pub const LIST_WORDS: usize = CALL_WORDS * MOST_CALLS;
+
+pub const LOG_WORDS: usize = RECORD_WORDS * MOST_CALLS;
 
 pub fn text(t: &[u8]) {
     io::write_all(STDOUT_FILENO, t);

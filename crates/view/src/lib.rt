@@ -9,6 +9,7 @@ ghost use lib.ListN.{getD};
 ghost use Rattle.model.specs.Floats.{float};
 ghost use Rattle.model.specs.Entries.{headLen, entryOf};
 ghost use Rattle.model.specs.Calls as Calls;
+ghost use Rattle.model.specs.Known.{Known};
 ghost use Rattle.view.specs.View.{saw, seen, coefAt, rowWordsAt};
 
 // A view of one entry, with what the call gave: the words are exactly the entry's stretch of the lent store; of a refused call, none.
@@ -37,9 +38,17 @@ pub struct RowWords {
 pub fn view_answer(h: Header, store: &[u64], place: usize) -> Answer
     ensures { λ r. ⌜ r ≡ Calls.step (Calls.view place) (Calls.held h (now (store .entry))) .answer ⌝ }
 {
+    view_answer_known(h, store, place, false)
+}
+
+// .. told whether all but the weights is known to be sound.
+pub fn view_answer_known(h: Header, store: &[u64], place: usize, known: bool) -> Answer
+    requires { ⌜ Known known (Calls.held h (now store)) ⌝ }
+    ensures { λ r. ⌜ r ≡ Calls.step (Calls.view place) (Calls.held h (now (store .entry))) .answer ⌝ }
+{
     let size = h.size;
     let own = checks::test(3, h.count <= place);
-    let number = checks::front(h, store, own);
+    let number = checks::front(h, store, own, known);
     if number != 0 {
         return answers::plain_answer(h, number);
     }
@@ -50,7 +59,15 @@ pub fn view_answer(h: Header, store: &[u64], place: usize) -> Answer
 pub fn view_words(h: Header, store: &[u64], place: usize) -> &[u64]
     ensures { λ r. ⌜ now r ≡ Calls.step (Calls.view place) (Calls.held h (now (store .entry))) .output ⌝ }
 {
-    let answer = view_answer(h, store, place);
+    view_words_known(h, store, place, false)
+}
+
+// .. told whether all but the weights is known to be sound.
+pub fn view_words_known(h: Header, store: &[u64], place: usize, known: bool) -> &[u64]
+    requires { ⌜ Known known (Calls.held h (now store)) ⌝ }
+    ensures { λ r. ⌜ now r ≡ Calls.step (Calls.view place) (Calls.held h (now (store .entry))) .output ⌝ }
+{
+    let answer = view_answer_known(h, store, place, known);
     let len = answer.length;
     words::stretch(store, len, place)
 }

@@ -22,7 +22,7 @@ module _ {A : Type 0} (p : A → Bool) where
   keptFrom j i l = take j l ++ retain p (drop i l)
 
   module _ (l : List A) (i : ℕ) (d : A) (h : i < length l) where
-    next : (b : Bool) → p (getD l i d) ≡ b → retain p (drop i l) ≡ cond b (getD l i d ∷ retain p (drop (i + 1) l)) (retain p (drop (i + 1) l))
+    pub next : (b : Bool) → p (getD l i d) ≡ b → retain p (drop i l) ≡ cond b (getD l i d ∷ retain p (drop (i + 1) l)) (retain p (drop (i + 1) l))
     unfolding retain
     next b e = rw (drop-cons l i d h, retain, e, add-one)
 

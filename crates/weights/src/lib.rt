@@ -2,7 +2,9 @@
 mod calls;
 
 pub use calls::normalise;
+pub use calls::normalise_known;
 pub use calls::truncate;
+pub use calls::truncate_known;
 use model::Size;
 ghost use mathlib.Core.Path.{_≡_};
 ghost use mathlib.Core.Bool.{true};
@@ -10,7 +12,7 @@ ghost use mathlib.Core.List.{map};
 ghost use Rattle.model.specs.Floats.{finiteFromZero};
 ghost use Rattle.model.specs.Entries.{listed};
 ghost use Rattle.model.specs.Store.{keyedWeighed};
-ghost use Rattle.model.specs.Sum.{total, dividedBy, kept};
+ghost use Rattle.model.specs.Sum.{total, dividedBy, kept, takenBy};
 ghost use Rattle.model.specs.Sound.{Packed};
 ghost use Rattle.entries.specs.Holds.{Holds};
 ghost use Rattle.weights.specs.Outcomes.{Normalised, Truncated};
@@ -65,36 +67,45 @@ pub fn normalise_entries(store: &mut [u64], size: Size, count: usize) -> bool
 
 // ---- truncate
 
-// The entries whose weight is above the cutoff, moved to the front in list order. The slots past them are emptied. Their number is the answer.
-fn keep_above(store: &mut [u64], size: Size, count: usize, cutoff: f64) -> usize
+// What truncating leaves: so many entries. The weights of those that went, added from 0 in list order.
+pub struct Cut {
+    pub left: usize,
+    pub taken: f64,
+}
+
+// The entries whose weight is above the cutoff, moved to the front in list order. The slots past them are emptied.
+fn keep_above(store: &mut [u64], size: Size, count: usize, cutoff: f64) -> Cut
     requires { ⌜ Packed size count (now store) ⌝ }
-    ensures { λ r. ⌜ Holds size r (kept keyedWeighed cutoff (listed size count (now (store .entry)))) (now (store .exit)) ⌝ }
+    ensures { λ r. ⌜ Holds size (r .left) (kept keyedWeighed cutoff (listed size count (now (store .entry)))) (now (store .exit)) ⌝ }
+    ensures { λ r. ⌜ r .taken ≡ takenBy keyedWeighed cutoff (listed size count (now (store .entry))) ⌝ }
 {
     let len = entries::entry_len(size);
-    let mut j = 0;
+    let mut left = 0;
+    let mut taken = 0.0;
     let mut i = 0;
     while i < count {
         let weight = words::float_of(store[i * len]);
         if cutoff < weight {
-            entries::move_entry(store, size, count, i, j);
-            j += 1;
+            entries::move_entry(store, size, count, i, left);
+            left += 1;
+        } else {
+            taken = taken + weight;
         }
         i += 1;
     }
-    entries::clear_from(store, size, j, count);
-    j
+    entries::clear_from(store, size, left, count);
+    Cut { left, taken }
 }
 
-// The entries whose weight is above the cutoff, in list order, the slots past them emptied; if any went, normalised. Their number is the answer.
+// The entries whose weight is above the cutoff, in list order, the slots past them emptied; if any went, normalised.
 // (Weights above a cutoff that is not below 0 have a total above 0: there is no 9.)
-pub fn truncate_entries(store: &mut [u64], size: Size, count: usize, cutoff: f64) -> usize
+pub fn truncate_entries(store: &mut [u64], size: Size, count: usize, cutoff: f64) -> Cut
     requires { ⌜ Packed size count (now store) × (finiteFromZero cutoff ≡ true) ⌝ }
     ensures { λ r. ⌜ Truncated size count cutoff (now (store .entry)) r (now (store .exit)) ⌝ }
 {
-    let left = keep_above(store, size, count, cutoff);
-    if left == count {
-        return count;
+    let cut = keep_above(store, size, count, cutoff);
+    if cut.left != count {
+        normalise_entries(store, size, cut.left);
     }
-    normalise_entries(store, size, left);
-    left
+    cut
 }

@@ -23,7 +23,7 @@ returns-2 : tie.Need-returns-2
 returns-2 c = front-own _ (given (c .before .before .before .before)) (shape-sound (c .before)) (c .if2 .taken)
 
 words-sound-requires : tie.Need-words-sound-requires
-words-sound-requires c κs = shape-sound (c .before)
+words-sound-requires c κs = (shape-sound (c .before), c .before .before .before .before .pre)
 
 returns-3 : tie.Need-returns-3
 returns-3 c =

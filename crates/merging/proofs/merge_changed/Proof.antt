@@ -2,6 +2,7 @@
 use mathlib.Core.Path.{refl, ap, _∙_}
 use native.Mathlib.Omega.{arith}
 use denote.Ref.{now}
+use Rattle.model.specs.Store.{reweighed}
 use Rattle.merging.specs.Progress.{branchIn}
 use Rattle.merging.specs.declared.Progress.{Progress}
 use Rattle.merging.proofs.Went.{one-branch, left-alone, few-tested, count-after}
@@ -29,13 +30,14 @@ same-length : tie.Need-same-length
 same-length c = search needs
 
 returns-2 : tie.Need-returns-2
+unfolding reweighed
 returns-2 c =
     let s = c .before .before .before .before .before .before .before .before .before in
     let a = s .args in
     let m = c .before .before .before .merge-one-changed in
     let b = branchIn (a .limits .size) (now (a .store)) (a .branch) in (
       rw (c .counted .ensures) (one-branch (a .limits .size) (a .limits .threshold) (a .limits .cutoff) b (a .p) (now (a .store)) _ (m .result) (s .pre .0 .0) (c .before .before .before .before .before .before .before .if1 .left) (m .ensures .0) (m .result .fate) refl),
-      rw (ap (λ (q : Progress). q .count) (c .counted .ensures) ∙ count-after (m .result .fate) (a .p) (m .result .compared)) (m .ensures .1),
+      rw (ap (λ (q : Progress). q .count) (c .counted .ensures) ∙ count-after (m .result .fate) (a .p) (m .result .compared) (a .branch .weight)) (m .ensures .1),
     )
 
 pub merge-changed-spec : {M : Type 1} → statement M

@@ -12,8 +12,8 @@ use Rattle.model.specs.Lists.{isEmpty, joined}
 use Rattle.model.specs.Entries.{Entry, Keyed, strip, wordsOf, bareWords, pack}
 use Rattle.model.specs.Keys.{usualSalts, keyed}
 use Rattle.model.specs.Store.{keyedWeighed, Tally, begun, Split, reweighed, mergedSplit, aboveCutoff, testedAll, howMany}
-use Rattle.model.specs.Sum.{Result, done, refused, mapResult, normalised, truncated, finished}
-use Rattle.model.specs.Channels.{Noise, qubits, noiseSplit, noiseTally, withEntries, channelled}
+use Rattle.model.specs.Sum.{Result, done, refused, mapResult, normalised, Cut, truncated, finished}
+use Rattle.model.specs.Channels.{Noise, qubits, noiseSplit, noiseTally, withCut, channelled}
 use Rattle.model.specs.Reset.{resetSplit, resetTally}
 use Rattle.model.specs.Gates.{turned}
 use Rattle.model.specs.Sheet.{Sheet, sheetText}
@@ -21,14 +21,15 @@ use Rattle.model.specs.Page.{pageText}
 use Rattle.model.specs.Table.{tableWords, pickPlace}
 use Rattle.model.specs.Numbers.{Test, gives, firstOf, someNotBelow, drawSound}
 use Rattle.model.specs.Keyless.{bareWeighed, keyless, clashesAll, clashesBy}
-use Rattle.model.specs.Calls.{Call, noise, reset, gate, truncate, normalise, table, pick, sheet, view, page, Sum, Outcome, tests, argumentTests, unless, changedTo, act, engine, kindOf, rebuiltEntries, rebuilt, wordsAfter, splitBy, testedBy}
+use Rattle.model.specs.Calls.{Call, noise, reset, gate, truncate, normalise, table, pick, sheet, view, page, Sum, Outcome, tests, argumentTests, unless, changedTo, cutDown, act, engine, kindOf, rebuiltEntries, rebuilt, wordsAfter, splitBy, testedBy}
 use Rattle.model.specs.declared.Gate.{Gate}
 use Rattle.model.specs.Demand3.{withoutKeys, flagLeft}
-use Rattle.model.proofs.Demand3.Lists.{map-same, map-twice, tallyMap, empty-map, one-map}
+use Rattle.model.proofs.Demand3.Lists.{map-same, map-twice, tallyMap, cutMap, empty-map, one-map}
 use Rattle.model.proofs.Demand3.Weights.{Keeps, normalised-map, truncated-map}
 use Rattle.model.proofs.Demand3.Merge.{own-keeps, tested-same}
-use Rattle.model.proofs.Demand3.Branches.{arms-below, noise-same, reset-same, channelled-same, reset-tally-same}
-use Rattle.model.proofs.Demand3.Room.{passed}
+use Rattle.model.proofs.Arms.{arms-below}
+use Rattle.model.proofs.Demand3.Branches.{noise-same, reset-same, channelled-same, reset-tally-same}
+use Rattle.model.proofs.Yields.{passed}
 use Rattle.model.proofs.Demand3.States.{own, Good, count-is}
 
 -- ---- keys added and taken away
@@ -61,6 +62,7 @@ pub record SameOutcome (c : Call) (m : Sum Entry) (dirty : Bool) (es : List Keye
   pub merged : o .tally .merged ≡ p .tally .merged
   pub stored : o .tally .stored ≡ p .tally .stored
   pub dropped : o .tally .dropped ≡ p .tally .dropped
+  pub lost : o .tally .lost ≡ p .tally .lost
   pub place : o .place ≡ p .place
   pub output : withoutKeys c (o .output) ≡ p .output
   pub compared : howMany (testedBy c (worked c m dirty es)) ≡ p .tally .merged + clashesBy usualSalts c m
@@ -123,17 +125,18 @@ module _ (m : Sum Entry) where
 
   module _ (dirty : Bool) (es : List Keyed) (g : Good m dirty es) where
     noise-ended : (c : Noise) (t : Tally Entry) → howMany (testedBy (noise c) (worked (noise c) m dirty es)) ≡ t .merged + clashesBy usualSalts (noise c) m
-        → (r : Result (List Entry))
-        → Same (noise c) m dirty es (mapResult changedTo (mapResult (tallyMap (own m)) (mapResult (withEntries (keyless (m .size) (m .threshold)) t) r)))
-        (mapResult changedTo (mapResult (withEntries (keyless (m .size) (m .threshold)) t) r))
+        → (r : Result (Cut Entry))
+        → Same (noise c) m dirty es (mapResult changedTo (mapResult (tallyMap (own m)) (mapResult (withCut (keyless (m .size) (m .threshold)) t) r)))
+        (mapResult changedTo (mapResult (withCut (keyless (m .size) (m .threshold)) t) r))
     unfolding mapResult withoutKeys wordsAfter kindOf
-    noise-ended c t e (done l) =
+    noise-ended c t e (done k) =
         both-done (record {
-          content = own-strip m l;
+          content = own-strip m (k .entries);
           keys = λ d. refl;
           merged = refl;
           stored = refl;
           dropped = refl;
+          lost = refl;
           place = refl;
           output = refl;
           compared = e;
@@ -168,6 +171,7 @@ module _ (m : Sum Entry) where
           merged = refl;
           stored = refl;
           dropped = refl;
+          lost = refl;
           place = refl;
           output = refl;
           compared = ap (λ (k : Sum Keyed). howMany (testedBy (reset q) k)) w ∙ reset-tested q h;
@@ -190,6 +194,7 @@ module _ (m : Sum Entry) where
           merged = refl;
           stored = refl;
           dropped = refl;
+          lost = refl;
           place = refl;
           output = refl;
           compared = refl;
@@ -198,59 +203,58 @@ module _ (m : Sum Entry) where
 
     -- ---- truncating and normalising move each key with its entry
 
-    -- a list with keys, and the list without
-    data SameList : Result (List Keyed) → Result (List Entry) → Type 0 where
-      both-listed : {k : List Keyed} {l : List Entry} → map strip k ≡ l → (dirty ≡ false → k ≡ map (own m) l) → SameList (done k) (done l)
-      neither : {n : ℕ} → SameList (refused n) (refused n)
+    -- what is given, if anything is
+    given-or : {A : Type 0} → A → Result A → A
+    given-or d (done a) = a
+    given-or d (refused n) = d
 
-    list-of : {X : Type 0} → Result (List X) → List X
-    list-of (done l) = l
-    list-of (refused n) = []
+    -- a call c that merges nothing and shows nothing: F makes a tally of what it gives with keys, G of what it gives without
+    module _ (c : Call) (o : withoutKeys c [] ≡ []) (f : flagLeft c dirty ≡ dirty)
+        (w : (l : List Keyed) → wordsAfter (kindOf c) (m .size) (pack (m .size) es) l ≡ pack (m .size) l)
+        {A B : Type 0} (F : A → Tally Keyed) (G : B → Tally Entry) (n : (b : B) → howMany (testedBy c (worked c m dirty es)) ≡ G b .merged + clashesBy usualSalts c m)
+        (bared : A → B) (e : (a : A) → tallyMap strip (F a) ≡ G (bared a)) (owned : B → A) (h : (b : B) → F (owned b) ≡ tallyMap (own m) (G b)) where
+      moved-done : (a : A) → (dirty ≡ false → a ≡ owned (bared a)) → SameOutcome c m dirty es (changedTo (F a)) (changedTo (G (bared a)))
+      moved-done a k =
+          record {
+            content = ap (λ (t : Tally Entry). t .entries) (e a);
+            keys = λ d. ap (λ (t : Tally Keyed). t .entries) (ap F (k (sym f ∙ d)) ∙ h (bared a));
+            merged = ap (λ (t : Tally Entry). t .merged) (e a);
+            stored = ap (λ (t : Tally Entry). t .stored) (e a);
+            dropped = ap (λ (t : Tally Entry). t .dropped) (e a);
+            lost = ap (λ (t : Tally Entry). t .lost) (e a);
+            place = refl;
+            output = o;
+            compared = n (bared a);
+            words = w (F a .entries);
+          }
 
-    moved : (a : Result (List Keyed)) (b : Result (List Entry)) → b ≡ mapResult (map strip) a → (dirty ≡ false → a ≡ mapResult (map (own m)) b) → SameList a b
-    unfolding mapResult list-of
-    moved a b e h = subst (SameList a) (sym e) (go a (λ d. h d ∙ ap (mapResult (map (own m))) e))
-      where
-        go : (a : Result (List Keyed)) → (dirty ≡ false → a ≡ mapResult (map (own m)) (mapResult (map strip) a)) → SameList a (mapResult (map strip) a)
-        go (done k) h = both-listed refl (λ d. ap list-of (h d))
-        go (refused n) h = neither
-
-    truncated-same : SameList (truncated keyedWeighed (m .cutoff) es) (truncated bareWeighed (m .cutoff) (m .entries))
-    truncated-same =
-        moved _ _ (ap (truncated bareWeighed (m .cutoff)) (sym (g .content)) ∙ truncated-map strip-keeps (m .cutoff) es)
-        (λ d. ap (truncated keyedWeighed (m .cutoff)) (g .keys d) ∙ truncated-map (own-keeps usualSalts (m .size .n)) (m .cutoff) (m .entries))
-
-    normalised-same : SameList (normalised keyedWeighed es) (normalised bareWeighed (m .entries))
-    normalised-same =
-        moved _ _ (ap (normalised bareWeighed) (sym (g .content)) ∙ normalised-map strip-keeps es)
-        (λ d. ap (normalised keyedWeighed) (g .keys d) ∙ normalised-map (own-keeps usualSalts (m .size .n)) (m .entries))
-
-    -- a call that merges nothing and gives a list
-    listed-acts : (c : Call) → withoutKeys c [] ≡ [] → flagLeft c dirty ≡ dirty
-        → howMany (testedBy c (worked c m dirty es)) ≡ 0 + clashesBy usualSalts c m → ((l : List Keyed) → wordsAfter (kindOf c) (m .size) (pack (m .size) es) l ≡ pack (m .size) l)
-        → {a : Result (List Keyed)} {b : Result (List Entry)} → SameList a b → Same c m dirty es (mapResult (λ l. changedTo (begun l)) a) (mapResult (λ l. changedTo (begun l)) b)
-    unfolding mapResult
-    listed-acts c o f n w (both-listed {k = k} e h) =
-        both-done (record {
-          content = e;
-          keys = λ d. h (sym f ∙ d);
-          merged = refl;
-          stored = refl;
-          dropped = refl;
-          place = refl;
-          output = o;
-          compared = n;
-          words = w k;
-        })
-    listed-acts c o f n w neither = both-refused
+      moved : (a : Result A) (b : Result B) → b ≡ mapResult bared a → (dirty ≡ false → a ≡ mapResult owned b)
+          → Same c m dirty es (mapResult (λ x. changedTo (F x)) a) (mapResult (λ x. changedTo (G x)) b)
+      unfolding mapResult given-or
+      moved a b p k =
+          subst (λ (r : Result B). Same c m dirty es (mapResult (λ x. changedTo (F x)) a) (mapResult (λ x. changedTo (G x)) r)) (sym p)
+          (go a (λ d. k d ∙ ap (mapResult owned) p))
+        where
+          go : (a : Result A) → (dirty ≡ false → a ≡ mapResult owned (mapResult bared a))
+              → Same c m dirty es (mapResult (λ x. changedTo (F x)) a) (mapResult (λ x. changedTo (G x)) (mapResult bared a))
+          go (done x) k = both-done (moved-done x (λ d. ap (given-or x) (k d)))
+          go (refused n) k = both-refused
 
     truncate-acts : Same truncate m dirty es (act engine truncate (worked truncate m dirty es)) (act keyless truncate m)
     unfolding act withoutKeys wordsAfter kindOf rebuilt flagLeft testedBy splitBy testedAll howMany clashesBy clashesAll
-    truncate-acts = listed-acts truncate refl refl refl (λ l. refl) truncated-same
+    truncate-acts =
+        moved truncate refl refl (λ l. refl) cutDown cutDown (λ b. refl) (cutMap strip) (λ a. refl) (cutMap (own m)) (λ b. refl)
+        (truncated keyedWeighed (m .cutoff) es) (truncated bareWeighed (m .cutoff) (m .entries))
+        (ap (truncated bareWeighed (m .cutoff)) (sym (g .content)) ∙ truncated-map strip-keeps (m .cutoff) es)
+        (λ d. ap (truncated keyedWeighed (m .cutoff)) (g .keys d) ∙ truncated-map (own-keeps usualSalts (m .size .n)) (m .cutoff) (m .entries))
 
     normalise-acts : Same normalise m dirty es (act engine normalise (worked normalise m dirty es)) (act keyless normalise m)
     unfolding act withoutKeys wordsAfter kindOf rebuilt flagLeft testedBy splitBy testedAll howMany clashesBy clashesAll
-    normalise-acts = listed-acts normalise refl refl refl (λ l. refl) normalised-same
+    normalise-acts =
+        moved normalise refl refl (λ l. refl) begun begun (λ b. refl) (map strip) (λ a. refl) (map (own m)) (λ b. refl)
+        (normalised keyedWeighed es) (normalised bareWeighed (m .entries))
+        (ap (normalised bareWeighed) (sym (g .content)) ∙ normalised-map strip-keeps es)
+        (λ d. ap (normalised keyedWeighed) (g .keys d) ∙ normalised-map (own-keeps usualSalts (m .size .n)) (m .entries))
 
     -- ---- tables, picks, sheets, views and pages only look
 
@@ -266,6 +270,7 @@ module _ (m : Sum Entry) where
           merged = refl;
           stored = refl;
           dropped = refl;
+          lost = refl;
           place = e;
           output = o;
           compared = n;

@@ -1,62 +1,33 @@
 -- The branches of a channel or a reset, made over keys that are worked out, are those made without keys, with their own keys. Assumes nothing.
 use Prim.Native.Nat.{ℕ, _<_}
 use mathlib.Core.Path.{_≡_, refl, sym, ap, ap₂, _∙_}
-use mathlib.Core.Bool.{Bool, false, cond}
+use mathlib.Core.Bool.{Bool, cond}
 use mathlib.Core.List.{List, [], _∷_, map}
-use lib.Dec.{eqb, leb}
+use lib.Dec.{eqb}
 use lib.Ieee.{Float}
 use lib.ListN.{length, length-map}
-use borrow.Author.Tests.{leb-false}
-use Rattle.model.specs.Lists.{some-of, joined}
+use Rattle.model.specs.Lists.{joined}
 use Rattle.model.specs.Floats.{float, bits, times}
 use Rattle.model.specs.Entries.{Entry, Keyed}
 use Rattle.model.specs.Keys.{lostBit, keyed}
 use Rattle.model.specs.Changes.{changedEntry, changedKeyed}
 use Rattle.model.specs.Store.{keyedWeighed, withKeys, Tally, begun, Split, reweighed, mergedSplit, aboveCutoff}
-use Rattle.model.specs.Sum.{Result, done, refused, mapResult, finished}
-use Rattle.model.specs.Channels.{Noise, one, two, depolarize2, Arm, Pair, pauliArms, pairArms, pauliPairs, channelArms, arms, qubits, live, scaled, branchOf, branchesOf, noiseSplit, noiseTally, withEntries, channelled}
+use Rattle.model.specs.Sum.{Result, done, refused, mapResult, Cut, finished}
+use Rattle.model.specs.Channels.{Noise, Arm, arms, live, scaled, branchOf, branchesOf, noiseSplit, noiseTally, withCut, channelled}
 use Rattle.model.specs.Reset.{drained, resetSplit, resetTally}
-use Rattle.model.specs.Numbers.{someNotBelow}
 use Rattle.model.specs.Keyless.{bareWeighed, keyless}
 use Rattle.model.specs.declared.BranchMutation.{BranchMutation}
 use Rattle.model.specs.declared.BranchMutation.the-variants.{Loss as loss}
-use Rattle.model.specs.declared.Channel.the-variants.{Pauli as PauliRates, Loss, Depolarizing}
 use Rattle.model.specs.declared.Salts.{Salts}
 use Rattle.model.specs.declared.Size.{Size}
-use Rattle.model.proofs.Lists.{or-neither}
 use Rattle.model.specs.Qubits.{LossBelow}
 use Rattle.model.proofs.Changed.{changed-keys}
-use Rattle.model.proofs.Demand3.Lists.{cond-map, map-ext, map-twice, joined-map, splitMap, tallyMap, drained-map}
-use Rattle.model.proofs.Demand3.Each.{Each, nil, cons}
+use Rattle.model.proofs.Demand3.Lists.{cond-map, map-ext, map-twice, joined-map, splitMap, tallyMap, cutMap, drained-map}
+use Rattle.model.proofs.Qubits.{qubits-loss}
+use Rattle.model.proofs.Arms.{ArmBelow}
+use Rattle.model.proofs.Each.{Each, nil, cons}
 use Rattle.model.proofs.Demand3.Weights.{finished-map}
 use Rattle.model.proofs.Demand3.Merge.{own-keeps, merges-same}
-
--- ---- the qubit of a loss is below n once number 3 is not given
-
-abbrev ArmBelow : ℕ → Arm → Type 0
-ArmBelow n a = LossBelow n (a .change)
-
-first-below : (n q : ℕ) (qs : List ℕ) → someNotBelow n (q ∷ qs) ≡ false → q < n
-unfolding someNotBelow some-of
-first-below n q qs e = leb-false n q (or-neither (leb n q) (some-of (λ r. leb n r) qs) e .0)
-
-pauli-below : (n : ℕ) (x y z : Float) (q : ℕ) → Each (ArmBelow n) (pauliArms x y z q)
-unfolding pauliArms
-pauli-below n x y z q = cons tt (cons tt (cons tt nil))
-
-pair-below : (n a b : ℕ) (ps : List Pair) (rates : List Float) → Each (ArmBelow n) (pairArms a b ps rates)
-unfolding pairArms
-pair-below n a b [] rates = nil
-pair-below n a b (p ∷ ps) [] = nil
-pair-below n a b (p ∷ ps) (r ∷ rs) = cons tt (pair-below n a b ps rs)
-
-pub arms-below : (n : ℕ) (c : Noise) → someNotBelow n (qubits c) ≡ false → Each (ArmBelow n) (arms c)
-unfolding arms channelArms qubits
-arms-below n (one (PauliRates x y z) q) e = pauli-below n x y z q
-arms-below n (one (Loss p) q) e = cons (first-below n q [] e) nil
-arms-below n (one (Depolarizing p) q) e = pauli-below n _ _ _ q
-arms-below n (two rates a b) e = pair-below n a b pauliPairs rates
-arms-below n (depolarize2 p a b) e = pair-below n a b pauliPairs _
 
 module _ (salts : Salts) (s : Size) (threshold : Float) where
   abbrev own : Entry → Keyed
@@ -71,7 +42,7 @@ module _ (salts : Salts) (s : Size) (threshold : Float) where
   unfolding branchOf keyed
   branch-same x a h =
       let w = bits (times (float (x .weight)) (a .rate)) in
-      ap (reweighed keyedWeighed w) (changed-same (a .change) h x) ∙ own-keeps salts (s .n) .reweigh w (changedEntry (s .n) (a .change) x)
+      ap (reweighed keyedWeighed w) (changed-same (a .change) (qubits-loss (s .n) (a .change) h) x) ∙ own-keeps salts (s .n) .reweigh w (changedEntry (s .n) (a .change) x)
 
   arms-same : (x : Entry) {l : List Arm} → Each (ArmBelow (s .n)) l
       → map (branchOf (withKeys salts s threshold) (own x)) l ≡ map own (map (branchOf (keyless s threshold) x) l)
@@ -112,10 +83,10 @@ module _ (salts : Salts) (s : Size) (threshold : Float) where
   unfolding mergedSplit
   merged-same admit p = merges-same salts s threshold admit (p .branches) (begun (p .stay))
 
-  ended-same : (t : Tally Entry) (r : Result (List Entry))
-      → mapResult (withEntries (withKeys salts s threshold) (tallyMap own t)) (mapResult (map own) r) ≡ mapResult (tallyMap own) (mapResult (withEntries (keyless s threshold) t) r)
+  ended-same : (t : Tally Entry) (r : Result (Cut Entry))
+      → mapResult (withCut (withKeys salts s threshold) (tallyMap own t)) (mapResult (cutMap own) r) ≡ mapResult (tallyMap own) (mapResult (withCut (keyless s threshold) t) r)
   unfolding mapResult
-  ended-same t (done l) = refl
+  ended-same t (done c) = refl
   ended-same t (refused n) = refl
 
   -- a channel
@@ -126,8 +97,8 @@ module _ (salts : Salts) (s : Size) (threshold : Float) where
       let t = noiseTally (keyless s threshold) cutoff c l in
       let e : noiseTally (withKeys salts s threshold) cutoff c (map own l) ≡ tallyMap own t =
       ap (mergedSplit (withKeys salts s threshold) (aboveCutoff cutoff)) (noise-same c h l) ∙ merged-same (aboveCutoff cutoff) (noiseSplit (keyless s threshold) c l) in
-      ap (λ (u : Tally Keyed). mapResult (withEntries (withKeys salts s threshold) u) (finished keyedWeighed capacity cutoff (u .dropped) (u .entries))) e
-      ∙ ap (mapResult (withEntries (withKeys salts s threshold) (tallyMap own t))) (finished-map (own-keeps salts (s .n)) capacity cutoff (t .dropped) (t .entries))
+      ap (λ (u : Tally Keyed). mapResult (withCut (withKeys salts s threshold) u) (finished keyedWeighed capacity cutoff (u .dropped) (u .entries))) e
+      ∙ ap (mapResult (withCut (withKeys salts s threshold) (tallyMap own t))) (finished-map (own-keeps salts (s .n)) capacity cutoff (t .dropped) (t .entries))
       ∙ ended-same t (finished bareWeighed capacity cutoff (t .dropped) (t .entries))
 
   -- a reset

@@ -1,71 +1,20 @@
 -- A header and words that hold a list: no call finds fault with their shape, and what is listed in them is that list. Assumes nothing.
-use Prim.Native.Nat.{ℕ, zero, suc, _+_, _*_, _-_, _≤_}
-use native.Mathlib.Nat.{suc-mul, zero-mul, add-mul, add-comm, add-sub-of-le}
+use Prim.Native.Nat.{_*_, _≤_}
 use native.Mathlib.Omega.{arith}
-use mathlib.Core.Path.{_≡_, refl, sym, ap, ap₂, subst, _∙_}
+use mathlib.Core.Path.{_≡_, sym, ap, subst, _∙_}
 use mathlib.Core.Bool.{Bool, true, false}
-use mathlib.Core.List.{List, _∷_, _++_, map, append-assoc}
-use lib.ListN.{length, take, drop, replicate, length-append, length-replicate, length-map}
-use lib.Seq.{take-at, drop-at}
+use mathlib.Core.List.{List, map}
+use lib.ListN.{length, length-map}
 use borrow.Author.Tests.{le-leb}
-use Rattle.model.specs.Lists.{groups, joined, every}
-use Rattle.model.specs.Entries.{Entry, Keyed, strip, entryLen, wordsOf, entryOf, listed, pastCount, pack}
+use Rattle.model.specs.Entries.{Entry, Keyed, strip, entryLen, listed, pack}
 use Rattle.model.specs.Keys.{usualSalts, keyed}
-use Rattle.model.specs.Numbers.{firstOf, sizeSound, boundsSound, headerSound, allZero}
+use Rattle.model.specs.Numbers.{firstOf, sizeSound, boundsSound, headerSound}
 use Rattle.model.specs.Calls.{Sum, Lent, held, shape, zerosPast}
-use Rattle.model.specs.declared.Size.{Size}
-use Rattle.model.proofs.Packed.{Fits, entry-words, words-length}
-use Rattle.model.proofs.Demand3.Each.{Each, nil, cons, each-unmap}
-use Rattle.model.proofs.Demand3.Room.{Full, Held}
-
--- ---- the words of a list
-
-module _ (s : Size) where
-  joined-length : {es : List Keyed} → Each (Fits s) es → length (joined (map wordsOf es)) ≡ length es * entryLen s
-  unfolding joined
-  joined-length nil = sym (zero-mul (entryLen s))
-  joined-length (cons {x = e} {l = es} p a) =
-      length-append (wordsOf e) (joined (map wordsOf es))
-      ∙ ap₂ (λ (x y : ℕ). x + y) (words-length s e p) (joined-length a)
-      ∙ add-comm (entryLen s) (length es * entryLen s)
-      ∙ sym (suc-mul (length es) (entryLen s))
-
-  -- as many words as the capacity has room for
-  pub pack-length : {es : List Keyed} → Each (Fits s) es → length es ≤ s .capacity → length (pack s es) ≡ s .capacity * entryLen s
-  unfolding pack
-  pack-length {es} a h =
-      length-append (joined (map wordsOf es)) (replicate ((s .capacity - length es) * entryLen s) 0)
-      ∙ ap₂ (λ (x y : ℕ). x + y) (joined-length a) (length-replicate ((s .capacity - length es) * entryLen s) 0)
-      ∙ sym (add-mul (length es) (s .capacity - length es) (entryLen s))
-      ∙ ap (λ (k : ℕ). k * entryLen s) (add-sub-of-le h)
-
-  zeros-replicate : (n : ℕ) → allZero (replicate n 0) ≡ true
-  unfolding allZero every
-  zeros-replicate zero = refl
-  zeros-replicate (suc n) = zeros-replicate n
-
-  -- 0 past them
-  pub pack-zeros : {es : List Keyed} → Each (Fits s) es → allZero (pastCount s (length es) (pack s es)) ≡ true
-  unfolding pastCount pack
-  pack-zeros {es} a =
-      ap allZero (drop-at (joined (map wordsOf es)) (replicate ((s .capacity - length es) * entryLen s) 0) (length es * entryLen s) (joined-length a))
-      ∙ zeros-replicate ((s .capacity - length es) * entryLen s)
-
-  listed-front : {es : List Keyed} → Each (Fits s) es → (rest : List ℕ) → map (entryOf s) (groups (entryLen s) (length es) (joined (map wordsOf es) ++ rest)) ≡ es
-  unfolding groups joined
-  listed-front nil rest = refl
-  listed-front (cons {x = e} {l = es} p a) rest =
-      let later = joined (map wordsOf es) ++ rest in
-      ap (λ (w : List ℕ). entryOf s (take (entryLen s) w) ∷ map (entryOf s) (groups (entryLen s) (length es) (drop (entryLen s) w)))
-      (append-assoc (wordsOf e) (joined (map wordsOf es)) rest)
-      ∙ ap₂ (λ (v w : List ℕ). entryOf s v ∷ map (entryOf s) (groups (entryLen s) (length es) w))
-      (take-at (wordsOf e) later (entryLen s) (words-length s e p)) (drop-at (wordsOf e) later (entryLen s) (words-length s e p))
-      ∙ ap₂ (λ (x : Keyed) (l : List Keyed). x ∷ l) (entry-words s e p) (listed-front a rest)
-
-  -- read back, they are the list
-  pub pack-listed : {es : List Keyed} → Each (Fits s) es → listed s (length es) (pack s es) ≡ es
-  unfolding listed pack
-  pack-listed a = listed-front a _
+use Rattle.model.proofs.Packed.{Fits}
+use Rattle.model.proofs.Packs.{pack-length, pack-zeros, pack-listed}
+use Rattle.model.proofs.Each.{Each, each-unmap}
+use Rattle.model.proofs.Full.{Full}
+use Rattle.model.proofs.Held.{Held}
 
 -- ---- the state that holds the list m with the stored keys of es
 

@@ -5,6 +5,7 @@ use mathlib.Core.Bool.{Bool, true}
 use mathlib.Core.List.{List, []}
 use lib.ListN.{length}
 use Rattle.model.specs.Entries.{Entry, Keyed}
+use Rattle.model.specs.Floats.{float, bits, zeroBits}
 use Rattle.model.specs.Sum.{Result, done, refused}
 use Rattle.model.specs.Numbers.{Test}
 use Rattle.model.specs.Keyless.{keyless, keylessStep}
@@ -12,7 +13,8 @@ use Rattle.model.specs.Calls.{Call, noise, reset, gate, truncate, normal
 use Rattle.model.proofs.Steps.{unless-none, bare-rebuilt, size-rebuilt}
 use Rattle.model.specs.Demand3.{next, keylessNext, bareForm, withoutKeys, shownBy, keylessShown, comparisons, flagLeft, flagBy}
 use Rattle.model.proofs.Demand3.Lists.{map-same}
-use Rattle.model.proofs.Demand3.Room.{Held, Yields, given, yields-unless, act-held}
+use Rattle.model.proofs.Yields.{Yields, given, yields-unless}
+use Rattle.model.proofs.Held.{Held, act-held}
 use Rattle.model.proofs.Demand3.States.{state, Good, listed-is, zeros-is, shape-is}
 use Rattle.model.proofs.Demand3.Acts.{stored, worked, SameOutcome, Same, both-done, both-refused, same-unless, acts-same}
 
@@ -76,8 +78,8 @@ module _ (c : Call) (m : Sum Entry) (dirty : Bool) (es : List Keyed) (g : Good m
       (same-unless us (λ h. acts-same m dirty es g c true (bare keyless m) h))
 
   performed-held : Yields (λ o. Held (m .size) (o .tally .entries)) (keylessStep c m)
-  unfolding performed keylessStep
-  performed-held = yields-unless _ _ (act-held c m (g .held))
+  unfolding performed keylessStep tests
+  performed-held = yields-unless _ _ (λ e. act-held c m _ _ e (g .held))
 
   -- ---- what is left
 
@@ -90,7 +92,7 @@ module _ (c : Call) (m : Sum Entry) (dirty : Bool) (es : List Keyed) (g : Good m
             ap₂ (λ (d : Bool) (w : List ℕ). held (headerWith (state m dirty es .header) (length (o .tally .entries)) d) w)
             (flag-is c dirty) (s .words);
         good = record { size = g .size; bounds = g .bounds; held = h; content = s .content; keys = s .keys };
-        shown = rw (s .merged, s .stored, s .dropped, s .place, s .output);
+        shown = rw (s .merged, s .stored, s .dropped, s .lost, s .place, s .output);
         compared = s .compared;
       }
 
@@ -102,7 +104,7 @@ module _ (c : Call) (m : Sum Entry) (dirty : Bool) (es : List Keyed) (g : Good m
         after = es;
         next-is = refl;
         good = g;
-        shown = ap (λ (w : List ℕ). record { number = n; merged = 0; stored = 0; dropped = 0; place = 0; output = w }) (nothing-shown c);
+        shown = ap (λ (w : List ℕ). record { number = n; merged = 0; stored = 0; dropped = 0; droppedWeight = bits (float zeroBits); truncatedWeight = bits (float zeroBits); place = 0; output = w }) (nothing-shown c);
         compared = refl;
       }
 

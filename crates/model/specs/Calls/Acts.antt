@@ -6,9 +6,10 @@ use lib.Dec.{ltb}
 use lib.Ieee.{Float}
 use lib.ListN.{length, take, drop}
 use Rattle.model.specs.Lists.{isEmpty, joined}
+use Rattle.model.specs.Floats.{float, zeroBits}
 use Rattle.model.specs.Entries.{Entry}
 use Rattle.model.specs.Store.{Holding, Tally, begun, Split}
-use Rattle.model.specs.Sum.{Result, done, mapResult, normalised, truncated}
+use Rattle.model.specs.Sum.{Result, done, mapResult, normalised, Cut, truncated}
 use Rattle.model.specs.Channels.{noiseSplit, channelled}
 use Rattle.model.specs.Reset.{resetSplit, resetTally}
 use Rattle.model.specs.Table.{tableWords, pickPlace}
@@ -39,6 +40,11 @@ module _ {X : Type 0} where
   abbrev pub changedTo : Tally X → Outcome X
   changedTo t = record { tally = t; place = 0; output = [] }
 
+  -- truncating merges nothing
+  abbrev pub cutDown : Cut X → Tally X
+  cutDown c =
+      record { entries = c .entries; merged = 0; stored = 0; dropped = 0; lost = record { dropped = float zeroBits; truncated = c .taken } }
+
 module _ {X : Type 0} (K : Size → Float → Holding X) where
   abbrev pub holding : Sum X → Holding X
   holding m = K (m .size) (m .threshold)
@@ -58,7 +64,7 @@ module _ {X : Type 0} (K : Size → Float → Holding X) where
   act (noise c) m = mapResult changedTo (channelled (holding m) (m .size .capacity) (m .cutoff) c (m .entries))
   act (reset q) m = done (changedTo (resetTally (holding m) (m .cutoff) q (m .entries)))
   act (gate g) m = done (changedTo (begun (map (turned (holding m .weighed) (m .size .n) g) (m .entries))))
-  act truncate m = mapResult (λ l. changedTo (begun l)) (truncated (holding m .weighed) (m .cutoff) (m .entries))
+  act truncate m = mapResult (λ c. changedTo (cutDown c)) (truncated (holding m .weighed) (m .cutoff) (m .entries))
   act normalise m = mapResult (λ l. changedTo (begun l)) (normalised (holding m .weighed) (m .entries))
   act (table room) m =
       unless (gives 8 (ltb room (2 * length (m .entries))) ∷ gives 9 (isEmpty (m .entries)) ∷ [])

@@ -7,7 +7,7 @@ use lib.Ieee.{Float}
 use lib.ListN.{length, drop}
 use Rattle.model.specs.Entries.{Keyed, strip, listed, pastCount, pack}
 use Rattle.model.specs.Keys.{usualSalts, keyed}
-use Rattle.model.specs.Store.{Holding, withKeys, begun, aboveCutoff, testedAll, howMany}
+use Rattle.model.specs.Store.{Holding, withKeys, noLoss, begun, aboveCutoff, testedAll, howMany}
 use Rattle.model.specs.Sum.{Result, done, refused}
 use Rattle.model.specs.Numbers.{Test, gives, firstOf, sizeSound, headerSound, entriesSound, allZero}
 use Rattle.model.specs.Calls.Judged.{Call, Kind, branching, turning, moving, looking, kindOf, unless}
@@ -15,6 +15,7 @@ use Rattle.model.specs.Calls.Acts.{Sum, withList, Outcome, holding, act,
 use Rattle.model.specs.declared.Size.{Size}
 use Rattle.model.specs.declared.Header.{Header}
 use Rattle.model.specs.declared.Counts.{Counts}
+use Rattle.model.specs.declared.Lost.{Lost}
 use Rattle.model.specs.declared.Answer.{Answer}
 
 -- ---- the sum that is lent: header and words
@@ -78,20 +79,21 @@ abbrev pub headerWith : Header → ℕ → Bool → Header
 headerWith h count dirty = headerOf (h .size) count (h .threshold) (h .cutoff) dirty
 
 -- .. and every answer
-abbrev pub answerOf : ℕ → Header → Counts → ℕ → ℕ → Answer
-answerOf number h counts place length = record { number = number; header = h; counts = counts; place = place; length = length }
+abbrev pub answerOf : ℕ → Header → Counts → Lost → ℕ → ℕ → Answer
+answerOf number h counts lost place length =
+    record { number = number; header = h; counts = counts; lost = lost; place = place; length = length }
 
 abbrev pub noCounts : Counts
 noCounts = record { merged = 0; stored = 0; dropped = 0; compared = 0 }
 
 -- a header and a number, and 0 for every other number: what a refusal comes with
 unfoldable pub plainAnswer : Header → ℕ → Answer
-plainAnswer h n = answerOf n h noCounts 0 0
+plainAnswer h n = answerOf n h noCounts noLoss 0 0
 
 unfoldable pub accepted : Header → ℕ → Outcome Keyed → Answer
 accepted h compared o =
     answerOf 0 h (record { merged = o .tally .merged; stored = o .tally .stored; dropped = o .tally .dropped; compared = compared })
-    (o .place) (length (o .output))
+    (o .tally .lost) (o .place) (length (o .output))
 
 -- the answer, the store's words, and what it wrote to its output slice, or shows in its view
 pub record Left : Type 0 where

@@ -6,7 +6,7 @@ use Rattle.noise.proofs.finish.Statement.{statement}
 use Rattle.noise.proofs.finish.Tie as tie
 
 returns : tie.Need-returns
-returns c = no-room-left (c .before .before .args .size) (c .before .before .args .p) (now (c .before .before .args .store)) (c .before .before .args .cutoff) (c .before .before .pre .0) (c .if1 .taken)
+returns c = no-room-left (c .before .before .args .size) (c .before .before .args .p) (now (c .before .before .args .store)) (c .before .before .args .cutoff) (c .before .before .pre .0) _ (c .if1 .taken)
 
 renormalise-requires : tie.Need-renormalise-requires
 renormalise-requires c κs = search needs
@@ -24,7 +24,7 @@ same-length-2 : tie.Need-same-length-2
 same-length-2 c = search needs
 
 returns-3 : tie.Need-returns-3
-returns-3 c = nothing-left (c .before .before .before .before .before .before .before .args .size) (c .before .before .before .before .before .before .before .args .p) (now (c .before .before .before .before .before .before .before .args .store)) (c .before .before .before .before .before .before .before .args .cutoff) (c .before .before .before .before .before .before .before .pre .0) (c .before .before .before .before .before .if1 .left) (rw (c .if2 .left) at (c .before .before .before .renormalise .ensures))
+returns-3 c = nothing-left (c .before .before .before .before .before .before .before .args .size) (c .before .before .before .before .before .before .before .args .p) (now (c .before .before .before .before .before .before .before .args .store)) (c .before .before .before .before .before .before .before .args .cutoff) (c .before .before .before .before .before .before .before .pre .0) (c .before .before .before .before .before .if1 .left) _ (rw (c .if2 .left) at (c .before .before .before .renormalise .ensures))
 
 pub finish-spec : {M : Type 1} → statement M
 finish-spec =

@@ -2,7 +2,7 @@
 use mathlib.Core.Path.{_≡_, refl, sym, ap, ap₂, _∙_}
 use denote.Ref.{now}
 use lib.ListN.{length}
-use Rattle.model.specs.Calls.{Lent, held, gave, accepted}
+use Rattle.model.specs.Calls.{Lent, held, gave}
 use Rattle.model.specs.declared.Answer.{Answer}
 use Rattle.model.proofs.Sound.{sound-few}
 use Rattle.model.specs.Entries.{listed}
@@ -59,12 +59,11 @@ same-length : tie.Need-same-length
 same-length c = c .before .before .before .before .before .finish .ensures .packed .sized .words ∙ sym (c .before .before .before .before .before .before .before .before .before .before .before .before .before .before .before .before .before .before .before .before .pre .sound .packed .sized .words)
 
 returns : tie.Need-returns
-unfolding accepted
 returns c = λ n h.
     let f = c .before .before .before .before .before .finish in
     let s = c .before .before .before .before .before .before .before .before .before .before .before .before .before .before .before .before .before .before .before .before in
     ap (λ (r : Answer). gave r (f .last .0)) (c .answer .ensures)
-    ∙ ran-0 (given s) (s .args .arms) n h (c .before .before .before .before .before .before .before .before .before .spread .result) _ (spreads (c .before .before .before .before .before)) (f .result .number) (f .result .count) _ (f .ensures) (c .before .if1 .taken)
+    ∙ ran-0 (given s) (s .args .arms) n h (c .before .before .before .before .before .before .before .before .before .spread .result) _ (spreads (c .before .before .before .before .before)) (f .result .number) (f .result .count) (f .result .taken) _ (f .ensures) (c .before .if1 .taken)
 
 undo-requires : tie.Need-undo-requires
 undo-requires c κs =
@@ -91,7 +90,7 @@ returns-2 c = λ n h.
     let f = c .before .before .before .before .before .before .before .before .before .before .before .before .finish in
     let s = c .before .before .before .before .before .before .before .before .before .before .before .before .before .before .before .before .before .before .before .before .before .before .before .before .before .before .before in
     ap₂ gave (c .plain-answer .ensures) (back (c .before .before .before))
-    ∙ ran-refused (given s) (s .args .arms) n h (c .before .before .before .before .before .before .before .before .before .before .before .before .before .before .before .before .spread .result) _ (spreads (c .before .before .before .before .before .before .before .before .before .before .before .before)) (f .result .number) (f .result .count) _ (f .ensures) (c .before .before .before .before .before .before .before .before .if1 .left)
+    ∙ ran-refused (given s) (s .args .arms) n h (c .before .before .before .before .before .before .before .before .before .before .before .before .before .before .before .before .spread .result) _ (spreads (c .before .before .before .before .before .before .before .before .before .before .before .before)) (f .result .number) (f .result .count) (f .result .taken) _ (f .ensures) (c .before .before .before .before .before .before .before .before .if1 .left)
 
 pub run-spec : {M : Type 1} → statement M
 run-spec =

@@ -4,9 +4,9 @@ use mathlib.Core.List.{List}
 use Prim.Native.Nat.{ℕ, _≤_, _<_}
 use native.Mathlib.Omega.{arith}
 use denote.Ref.{now}
-use Rattle.model.specs.Calls.{Lent, held, table, pick, view}
+use Rattle.model.specs.Calls.{table, pick, view}
 use Rattle.perform.specs.Encoding.{kindIn, callBy}
-use Rattle.perform.proofs.Encoded.{looked-as, room-small}
+use Rattle.perform.proofs.Encoded.{looked-as, table-shows, view-shows, room-small}
 use borrow.Author.Needs.{needs}
 use Rattle.perform.proofs.look.Statement.{statement}
 use Rattle.perform.proofs.look.Tie as tie
@@ -20,9 +20,6 @@ from c = c .before .before .before .before
 abbrev words : tie.After-shared-slice-known3 → List ℕ
 words c = now (from c .args .call)
 
-abbrev given : tie.After-shared-slice-known3 → Lent
-given c = held (from c .args .h) (now (from c .args .store))
-
 shared-slice-read-kind : tie.Need-shared-slice-read-kind
 shared-slice-read-kind c = search needs
 
@@ -32,7 +29,7 @@ table-room-requires c κs = search needs
 show-table-requires : tie.Need-show-table-requires
 show-table-requires c κs =
     let b = c .before .before .before in
-    (omega (arith, c .before .table-room .ensures, room-small (words b)), from b .pre .4)
+    (omega (arith, c .before .table-room .ensures, room-small (words b)), from b .pre .1 .1 (table-shows (words b) (c .before .before .if1 .taken)), from b .pre .1 .2)
 
 same-length : tie.Need-same-length
 same-length c = search needs
@@ -42,7 +39,7 @@ unfolding callBy
 returns c =
     let t = c .before .before .before .before .before in
     let b = t .before in
-    looked-as 11 (words b) (t .if1 .taken) (λ bytes. ap table (c .before .before .before .before .table-room .ensures)) (given b) (c .before .before .show-table .ensures)
+    looked-as 11 (words b) (t .if1 .taken) (λ bytes. ap table (c .before .before .before .before .table-room .ensures)) (c .before .before .show-table .ensures)
 
 rate-requires : tie.Need-rate-requires
 rate-requires c κs = search needs
@@ -58,13 +55,21 @@ unfolding callBy
 returns-2 c =
     let t = c .before .before .before .before .before in
     let b = t .before .before in
-    looked-as 12 (words b) (t .if2 .taken) (λ bytes. ap pick (c .before .before .before .before .rate .ensures)) (given b) (c .before .before .show-pick .ensures)
+    looked-as 12 (words b) (t .if2 .taken) (λ bytes. ap pick (c .before .before .before .before .rate .ensures)) (c .before .before .show-pick .ensures)
+
+viewed : (c : tie.Else2) → kindIn (words (c .before .before)) ≡ 14
+viewed c =
+    let b = c .before .before in
+    last-kind (kindIn (words b)) (from b .pre .0 .1) (from b .pre .0 .2) (from b .pre .0 .3) (c .if2 .left) (c .before .if1 .left)
 
 whole-requires : tie.Need-whole-requires
 whole-requires c κs = search needs
 
 show-view-requires : tie.Need-show-view-requires
-show-view-requires c κs = search needs
+show-view-requires c κs =
+    let t = c .before .before in
+    let b = t .before .before in
+    (from b .pre .1 .1 (view-shows (words b) (viewed t)), from b .pre .1 .2)
 
 same-length-3 : tie.Need-same-length-3
 same-length-3 c = search needs
@@ -74,8 +79,7 @@ unfolding callBy
 returns-3 c =
     let t = c .before .before .before .before .before in
     let b = t .before .before in
-    let e : kindIn (words b) ≡ 14 = last-kind (kindIn (words b)) (from b .pre .1) (from b .pre .2) (from b .pre .3) (t .if2 .left) (t .before .if1 .left) in
-    looked-as 14 (words b) e (λ bytes. ap view (c .before .before .before .before .whole .ensures)) (given b) (c .before .before .show-view .ensures)
+    looked-as 14 (words b) (viewed t) (λ bytes. ap view (c .before .before .before .before .whole .ensures)) (c .before .before .show-view .ensures)
 
 pub look-spec : {M : Type 1} → statement M
 look-spec =

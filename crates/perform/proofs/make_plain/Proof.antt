@@ -5,7 +5,7 @@ use Prim.Native.Nat.{ℕ}
 use native.Mathlib.Omega.{arith}
 use denote.Ref.{now}
 use borrow.Author.Needs.{needs}
-use Rattle.model.specs.Calls.{Lent, held, reset}
+use Rattle.model.specs.Calls.{reset}
 use Rattle.perform.specs.Encoding.{kindIn, callBy}
 use Rattle.perform.proofs.Encoded.{made-by, made-as}
 use Rattle.perform.proofs.make_plain.Statement.{statement}
@@ -17,17 +17,14 @@ from c = c .before .before .before
 abbrev words : tie.After-shared-slice-known2 → List ℕ
 words c = now (from c .args .call)
 
-abbrev given : tie.After-shared-slice-known2 → Lent
-given c = held (from c .args .h) (now (from c .args .store))
-
 shared-slice-read-kind : tie.Need-shared-slice-read-kind
 shared-slice-read-kind c = search needs
 
 whole-requires : tie.Need-whole-requires
 whole-requires c κs = search needs
 
-reset-loss-channel-requires : tie.Need-reset-loss-channel-requires
-reset-loss-channel-requires c κs = search needs
+reset-loss-channel-known-requires : tie.Need-reset-loss-channel-known-requires
+reset-loss-channel-known-requires c κs = search needs
 
 same-length : tie.Need-same-length
 same-length c = search needs
@@ -37,13 +34,13 @@ unfolding callBy
 returns c =
     let r = c .before .before .before .before in
     let b = r .before .before in
-    made-as 5 (words b) (r .before .if1 .taken) (λ bytes. ap reset (r .whole .ensures)) (given b) (c .before .before .reset-loss-channel .ensures)
+    made-as 5 (words b) (r .before .if1 .taken) (λ bytes. ap reset (r .whole .ensures)) (c .before .before .reset-loss-channel-known .ensures)
 
 gate-in-requires : tie.Need-gate-in-requires
 gate-in-requires c κs = search needs
 
-gate-requires : tie.Need-gate-requires
-gate-requires c κs = search needs
+gate-known-requires : tie.Need-gate-known-requires
+gate-known-requires c κs = search needs
 
 same-length-2 : tie.Need-same-length-2
 same-length-2 c = search needs
@@ -52,10 +49,10 @@ returns-2 : tie.Need-returns-2
 returns-2 c =
     let r = c .before .before .before .before in
     let b = r .before .before .before in
-    made-by (words b) (r .gate-in .ensures) (given b) (c .before .before .gate .ensures)
+    made-by (words b) (r .gate-in .ensures) (c .before .before .gate-known .ensures)
 
-truncate-requires : tie.Need-truncate-requires
-truncate-requires c κs = search needs
+truncate-known-requires : tie.Need-truncate-known-requires
+truncate-known-requires c κs = search needs
 
 same-length-3 : tie.Need-same-length-3
 same-length-3 c = search needs
@@ -65,10 +62,10 @@ unfolding callBy
 returns-3 c =
     let t = c .before .before .before .before in
     let b = t .before .before .before in
-    made-as 9 (words b) (t .if3 .taken) (λ bytes. refl) (given b) (c .before .before .truncate .ensures)
+    made-as 9 (words b) (t .if3 .taken) (λ bytes. refl) (c .before .before .truncate-known .ensures)
 
-normalise-requires : tie.Need-normalise-requires
-normalise-requires c κs = search needs
+normalise-known-requires : tie.Need-normalise-known-requires
+normalise-known-requires c κs = search needs
 
 same-length-4 : tie.Need-same-length-4
 same-length-4 c = search needs
@@ -79,7 +76,7 @@ returns-4 c =
     let t = c .before .before .before .before in
     let b = t .before .before .before in
     let e : kindIn (words b) ≡ 10 = omega (arith, from b .pre .2, t .if3 .left, t .before .if2 .left) in
-    made-as 10 (words b) e (λ bytes. refl) (given b) (c .before .before .normalise .ensures)
+    made-as 10 (words b) e (λ bytes. refl) (c .before .before .normalise-known .ensures)
 
 pub make-plain-spec : {M : Type 1} → statement M
 make-plain-spec =
@@ -87,16 +84,16 @@ make-plain-spec =
     (tie.spec
     shared-slice-read-kind
     whole-requires
-    reset-loss-channel-requires
+    reset-loss-channel-known-requires
     same-length
     returns
     gate-in-requires
-    gate-requires
+    gate-known-requires
     same-length-2
     returns-2
-    truncate-requires
+    truncate-known-requires
     same-length-3
     returns-3
-    normalise-requires
+    normalise-known-requires
     same-length-4
     returns-4)

@@ -5,8 +5,18 @@ use Prim.Native.Nat.{ℕ}
 use lib.ListN.{drop}
 use denote.Ref.{now}
 use borrow.Author.Needs.{needs}
+use Rattle.perform.specs.Records.{numberWords}
 use Rattle.perform.proofs.put_numbers.Statement.{statement}
 use Rattle.perform.proofs.put_numbers.Tie as tie
+
+bits-of-requires : tie.Need-bits-of-requires
+bits-of-requires c κs = search needs
+
+bits-of-requires-2 : tie.Need-bits-of-requires-2
+bits-of-requires-2 c κs = search needs
+
+flag-word-requires : tie.Need-flag-word-requires
+flag-word-requires c κs = search needs
 
 sub-copy-words : tie.Need-sub-copy-words
 sub-copy-words c = search needs
@@ -27,12 +37,19 @@ same-length : tie.Need-same-length
 same-length c = search needs
 
 returns : tie.Need-returns
-returns c = ap (λ (l : List ℕ). l ++ drop 7 (now (c .before .before .before .before .before .before .before .args .out))) (c .before .before .copy-words .ensures)
+returns c =
+    let w = c .before .before in
+    let f = w .before .before .before in
+    rw (← f .before .before .bits-of .ensures, ← f .before .bits-of2 .ensures, ← f .flag-word .ensures)
+    (ap (λ (l : List ℕ). l ++ drop numberWords (now (f .before .before .before .before .before .before .before .args .out))) (w .copy-words .ensures))
 
 pub put-numbers-spec : {M : Type 1} → statement M
 put-numbers-spec =
     tie.close
     (tie.spec
+    bits-of-requires
+    bits-of-requires-2
+    flag-word-requires
     sub-copy-words
     part-copy-words-start
     part-copy-words-end

@@ -7,10 +7,10 @@ use Rattle.replay.proofs.replay.Statement.{statement}
 use Rattle.replay.proofs.replay.Tie as tie
 
 abbrev Inv-loop : tie.InvT-loop
-Inv-loop given store₀ text₀ state₀ item₀ at₀ i₀ store text state item at i = (i ≤ 20000) × (length store ≡ length store₀) × (length text ≡ length text₀) × (length item ≡ 18)
+Inv-loop given store₀ text₀ state₀ item₀ calls₀ at₀ i₀ store text state item calls at i = (i ≤ 20000) × (length store ≡ length store₀) × (length text ≡ length text₀) × (length item ≡ 18) × (length calls ≡ 1152)
 
 abbrev μ-loop : tie.MeasureT-loop
-μ-loop given store₀ text₀ state₀ item₀ at₀ i₀ store text state item at i = 20000 - i
+μ-loop given store₀ text₀ state₀ item₀ calls₀ at₀ i₀ store text state item calls at i = 20000 - i
 
 loop-holds : tie.Need-loop-holds Inv-loop μ-loop
 loop-holds c = search needs
@@ -35,6 +35,15 @@ read-item-requires c κs = search needs
 
 array-read-if2 : tie.Need-array-read-if2 Inv-loop μ-loop
 array-read-if2 c = search needs
+
+slice-aggregate-read-list : tie.Need-slice-aggregate-read-list Inv-loop μ-loop
+slice-aggregate-read-list c = search needs
+
+read-list-requires : tie.Need-read-list-requires Inv-loop μ-loop
+read-list-requires c κs = search needs
+
+slice-aggregate-step : tie.Need-slice-aggregate-step Inv-loop μ-loop
+slice-aggregate-step c = search needs
 
 step-requires : tie.Need-step-requires Inv-loop μ-loop
 step-requires c κs = search needs
@@ -71,6 +80,9 @@ replay-spec =
     slice-aggregate-read-item
     read-item-requires
     array-read-if2
+    slice-aggregate-read-list
+    read-list-requires
+    slice-aggregate-step
     step-requires
     add-i
     loop-less

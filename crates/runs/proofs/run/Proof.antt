@@ -8,14 +8,14 @@ use borrow.Author.Needs.{needs}
 use Rattle.runs.proofs.run.Statement.{statement}
 use Rattle.runs.proofs.run.Tie as tie
 
-fit : (c : tie.Then1) → let a = c .before .before .before .before .before .before .args in fits (a .bytes) (now (a .calls)) (length (now (a .log))) (length (now (a .text))) ≡ true
+fit : (c : tie.Then1) → let a = c .before .before .before .before .before .before .args in fits (a .room) (now (a .calls)) (length (now (a .log))) (length (now (a .text))) ≡ true
 fit c = sym (c .before .fits2 .ensures) ∙ c .if1 .taken
 
 fits-requires : tie.Need-fits-requires
 fits-requires c κs = search needs
 
 run-calls-requires : tie.Need-run-calls-requires
-run-calls-requires c κs = fit (c .before .before .before)
+run-calls-requires c κs = (fit (c .before .before .before), tt)
 
 same-length : tie.Need-same-length
 same-length c = search needs

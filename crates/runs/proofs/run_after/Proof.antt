@@ -11,10 +11,13 @@ use Rattle.runs.proofs.run_after.Tie as tie
 returns : tie.Need-returns
 returns c =
     let a = c .before .before .before .before .before .before .args in
-    sym (after-refused (a .bytes) (callsIn (a .bytes) (now (a .calls))) (gave (a .a) (now (a .store))) (now (a .log)) (now (a .text)) (c .if1 .taken))
+    sym (after-refused (a .room) (callsIn (a .room .bytes) (now (a .calls))) (gave (a .a) (now (a .store))) (now (a .log)) (now (a .text)) (c .if1 .taken))
 
 run-calls-requires : tie.Need-run-calls-requires
-run-calls-requires c κs = search needs
+run-calls-requires c κs =
+    let e = c .before .before .before in
+    let s = e .before .before .before .before .before .before in
+    (s .pre .0, s .pre .1 (e .if1 .left))
 
 same-length : tie.Need-same-length
 same-length c = search needs
@@ -29,7 +32,7 @@ returns-2 : tie.Need-returns-2
 returns-2 c =
     let a = c .before .before .before .before .before .before .before .before .before .before .before .before .before .before .before .before .args in
     c .before .before .before .before .before .before .run-calls .ensures
-    ∙ sym (after-done (a .bytes) (callsIn (a .bytes) (now (a .calls))) (gave (a .a) (now (a .store))) (now (a .log)) (now (a .text)) (c .before .before .before .before .before .before .before .before .before .before .if1 .left))
+    ∙ sym (after-done (a .room) (callsIn (a .room .bytes) (now (a .calls))) (gave (a .a) (now (a .store))) (now (a .log)) (now (a .text)) (c .before .before .before .before .before .before .before .before .before .before .if1 .left))
 
 pub run-after-spec : {M : Type 1} → statement M
 run-after-spec =

@@ -6,7 +6,7 @@ use denote.Ref.{now}
 use borrow.Author.Tests.{not-true, not-false}
 use Rattle.model.specs.Calls.{fresh}
 use Rattle.runs.specs.Runs.{fits}
-use Rattle.runs.proofs.Promised.{ran-unfit, ran-on}
+use Rattle.runs.proofs.Promised.{start-known, ran-unfit, ran-on}
 use borrow.Author.Needs.{needs}
 use Rattle.runs.proofs.run_fresh.Statement.{statement}
 use Rattle.runs.proofs.run_fresh.Tie as tie
@@ -14,7 +14,7 @@ use Rattle.runs.proofs.run_fresh.Tie as tie
 abbrev from : tie.After-fits2 → tie.Start
 from c = c .before .before .before .before .before
 
-fit : (c : tie.Else1) → let a = from (c .before) .args in fits (a .bytes) (now (a .calls)) (length (now (a .log))) (length (now (a .text))) ≡ true
+fit : (c : tie.Else1) → let a = from (c .before) .args in fits (a .room) (now (a .calls)) (length (now (a .log))) (length (now (a .text))) ≡ true
 fit c = sym (c .before .fits2 .ensures) ∙ not-false _ (c .if1 .left)
 
 fits-requires : tie.Need-fits-requires
@@ -27,13 +27,17 @@ returns : tie.Need-returns
 returns c =
     let f = c .before .before in
     let a = from f .args in
-    ran-unfit (a .bytes) (now (a .calls)) (fresh (a .size) (a .threshold) (a .cutoff)) (now (a .store)) (now (a .log)) (now (a .text)) (sym (f .fits2 .ensures) ∙ not-true _ (c .before .if1 .taken)) (c .unfit-run .ensures)
+    ran-unfit (a .room) (now (a .calls)) (fresh (a .size) (a .threshold) (a .cutoff)) (now (a .store)) (now (a .log)) (now (a .text)) (sym (f .fits2 .ensures) ∙ not-true _ (c .before .if1 .taken)) (c .unfit-run .ensures)
 
 fresh-requires : tie.Need-fresh-requires
 fresh-requires c κs = search needs
 
 run-after-requires : tie.Need-run-after-requires
-run-after-requires c κs = fit (c .before .before .before .before .before .before .before)
+run-after-requires c κs =
+    let t = c .before .before .before .before .before in
+    let e = t .before .before in
+    let a = from (e .before) .args in
+    (fit e, start-known (fresh (a .size) (a .threshold) (a .cutoff)) (now (a .store)) (t .fresh .result) (t .fresh .last .1 .1 .1 .0) (t .fresh .ensures))
 
 same-length : tie.Need-same-length
 same-length c = search needs
@@ -49,7 +53,7 @@ returns-2 c =
     let t = c .before .before .before .before .before .before .before .before .before .before .before .before in
     let e = c .before .before .before .before .before .before .before .before .before .before .before .before .before .before in
     let a = from (e .before) .args in
-    ran-on (a .bytes) (now (a .calls)) (fresh (a .size) (a .threshold) (a .cutoff)) (now (a .store)) (now (a .log)) (now (a .text)) (t .fresh .result) (t .fresh .last .1 .1 .1 .0) (fit e) (t .fresh .ensures) (c .before .before .before .before .before .before .run-after .ensures)
+    ran-on (a .room) (now (a .calls)) (fresh (a .size) (a .threshold) (a .cutoff)) (now (a .store)) (now (a .log)) (now (a .text)) (t .fresh .result) (t .fresh .last .1 .1 .1 .0) (fit e) (t .fresh .ensures) (c .before .before .before .before .before .before .run-after .ensures)
 
 pub run-fresh-spec : {M : Type 1} → statement M
 run-fresh-spec =

@@ -8,7 +8,7 @@ use Rattle.runs.proofs.unfit_run.Statement.{statement}
 use Rattle.runs.proofs.unfit_run.Tie as tie
 
 abbrev ran : Header → Ran
-ran h = record { number = doesNotFit; header = h }
+ran h = record { number = doesNotFit; made = 0; header = h }
 
 zero-header-requires : tie.Need-zero-header-requires
 zero-header-requires c κs = search needs

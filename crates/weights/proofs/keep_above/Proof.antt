@@ -1,20 +1,20 @@
--- `weights::keep_above` meets its contract. The loop's invariant: the first j entries, and after them what is kept of the entries from i on, are
--- what is kept of all. Assumes nothing.
+-- `weights::keep_above` meets its contract. The loop's invariant: the first `left` entries, and after them what is kept of the entries from i
+-- on, are what is kept of all; and so with the weights that go. Assumes nothing.
 use mathlib.Core.Path.{_≡_}
 use mathlib.Core.Logic.{⊎-elim}
 use Prim.Native.Nat.{_*_, _-_, _≤_, _<_}
 use native.Mathlib.Omega.{arith}
 use lib.ListN.{length}
 use Rattle.entries.proofs.Slots.{in-limits, as-long, first-within}
-use Rattle.weights.proofs.Kept.{Keeping, none-passed, one-kept, one-gone, all-kept}
+use Rattle.weights.proofs.Kept.{Keeping, none-passed, one-kept, one-gone, all-kept, all-taken}
 use Rattle.weights.proofs.keep_above.Statement.{statement}
 use Rattle.weights.proofs.keep_above.Tie as tie
 
 abbrev Inv-loop : tie.InvT-loop
-Inv-loop store₀ size count cutoff len j₀ i₀ store j i = (i ≤ count) × (j ≤ i) × Keeping cutoff size count store₀ j i store
+Inv-loop store₀ size count cutoff len left₀ taken₀ i₀ store left taken i = (i ≤ count) × (left ≤ i) × Keeping cutoff size count store₀ left taken i store
 
 abbrev μ-loop : tie.MeasureT-loop
-μ-loop store₀ size count cutoff len j₀ i₀ store j i = count - i
+μ-loop store₀ size count cutoff len left₀ taken₀ i₀ store left taken i = count - i
 
 same-long : (c : tie.At-loop Inv-loop μ-loop) → length (c .loop .store) ≡ length (c .before .before .before .args .store .now)
 same-long c = as-long (c .loop .inv .2 .packed) (c .before .before .before .pre)
@@ -46,8 +46,8 @@ move-entry-requires c κs =
     let l = c .before .before .before .before in
     (l .before .loop .inv .2 .packed, l .loop-test .taken, l .before .loop .inv .1)
 
-add-j : tie.Need-add-j Inv-loop μ-loop
-add-j c = omega arith
+add-left : tie.Need-add-left Inv-loop μ-loop
+add-left c = omega arith
 
 add-i : tie.Need-add-i Inv-loop μ-loop
 add-i c = omega arith
@@ -63,8 +63,8 @@ loop-again c =
     let h = d .before .before .loop-test .taken in
     let e = l .before .entry-len .ensures in
     ⊎-elim
-    (λ w. (omega arith, omega arith, rw (w .5, w .6) (one-kept k h e (d .float-of .ensures) (l .loop .inv .1) (w .0 .taken) (w .2 .ensures))))
-    (λ w. (omega arith, omega arith, rw (w .1, w .2) (one-gone k h e (d .float-of .ensures) (w .0 .left))))
+    (λ w. (omega arith, omega arith, rw (w .5, w .6, w .7) (one-kept k h e (d .float-of .ensures) (l .loop .inv .1) (w .0 .taken) (w .2 .ensures))))
+    (λ w. (omega arith, omega arith, rw (w .1, w .2, w .3) (one-gone k h e (d .float-of .ensures) (w .0 .left))))
     (c .if1 .came)
 
 clear-from-requires : tie.Need-clear-from-requires Inv-loop μ-loop
@@ -74,10 +74,12 @@ returns : tie.Need-returns Inv-loop μ-loop
 returns c =
     let l = c .before .before .before .before .before in
     let e = c .before .before .clear-from .ensures in
-    all-kept (l .loop .inv .2) (c .before .before .before .before .loop-test .left) (e .0) (e .1)
+    let k = l .loop .inv .2 in
+    let h = c .before .before .before .before .loop-test .left in
+    (all-kept k h (e .0) (e .1), all-taken k h)
 
 same-length : tie.Need-same-length Inv-loop μ-loop
-same-length c = as-long (returns c .packed) (c .before .before .before .before .before .before .before .before .pre)
+same-length c = as-long (returns c .0 .packed) (c .before .before .before .before .before .before .before .before .pre)
 
 pub keep-above-spec : {M : Type 1} → statement M
 keep-above-spec =
@@ -92,7 +94,7 @@ keep-above-spec =
     slice-read-float-of
     float-of-requires
     move-entry-requires
-    add-j
+    add-left
     add-i
     loop-less
     loop-again

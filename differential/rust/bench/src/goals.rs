@@ -15,7 +15,7 @@ fn goal(name: &str) -> Option<f64> {
 }
 
 /// The smallest and the largest.
-fn span(values: impl Iterator<Item = f64>) -> (f64, f64) {
+pub fn span(values: impl Iterator<Item = f64>) -> (f64, f64) {
     values.fold((f64::INFINITY, 0.0), |(low, high), v| (v.min(low), v.max(high)))
 }
 

@@ -7,11 +7,15 @@
 //! optimised away. The Rust has a quick hash in place of document 01's word key. Beside each row stands what our check of the whole store
 //! takes, which the Rust does not make: a truncate of the same sum from which nothing goes. The published code writes no page; beside ours
 //! stands one over its entries, by 128-bit numbers and `write!`. At the end each kind of row is held to its
-//! goal, and the check to the speed at which a plain loop reads the same words.
+//! goal, and the check to the speed at which a plain loop reads the same words. Rows of lists follow: turns.rs.
 
+mod circuit;
 mod goals;
+mod list_goals;
+mod lists;
 mod sums;
 mod timing;
+mod turns;
 
 use oracle::{Call, Published, Sum, entry_len};
 use ours::Ours;
@@ -174,7 +178,7 @@ fn measure(row: &Row, capacity: usize, span: Duration) -> Measured {
     let (n, k, entries) = (row.sum.n, row.sum.k, entries(&row.sum));
     let theirs = compared.then(|| theirs.time());
     let (ours, check, read, words) = (ours.time(), check.time(), read.time(), start.store.len());
-    let moved = moved.map(|mut m| m.time());
+    let moved = moved.map(|m| m.time());
     Measured { name: row.name, n, k, entries, capacity, ours, theirs, check, read, moved, words, bytes }
 }
 
@@ -228,6 +232,42 @@ fn growth(all: &[Measured], title: &str, of: impl Fn(&Measured) -> Option<usize>
     }
 }
 
+/// Every row whose name has this in it, and what they show.
+fn calls(span: Duration, name: &str) {
+    let mut all = Vec::new();
+    for (n, k, count) in sizes() {
+        for row in rows(n, k, count).into_iter().filter(|r| r.name.contains(name)) {
+            if all.is_empty() {
+                println!(
+                    "call                           n   K  entr  cap      ours    median      Rust    median   ratio  median     check   (microseconds; least, median; the check's median)"
+                );
+            }
+            let enough = needed(&row);
+            let mut capacities = vec![enough, 256];
+            capacities.dedup();
+            for capacity in capacities {
+                let m = measure(&row, capacity, span);
+                print(&m);
+                all.push(m);
+            }
+        }
+    }
+    if all.is_empty() {
+        return;
+    }
+    goals::print(&all);
+    let just = |m: &&Measured| m.k == 1 && (m.capacity < 256 || m.entries == 256);
+    let just: Vec<Measured> = all.drain(..).filter(|m| just(&m)).collect();
+    growth(&just, "by entries, n 16, K 1", |m| (m.n == 16).then_some(m.entries));
+    growth(&just, "by qubits, 64 entries, K 1", |m| (m.entries == 64).then_some(m.n));
+}
+
+/// n, K and entries.
+fn sizes() -> impl Iterator<Item = (usize, usize, usize)> {
+    let counts = |n, k| [16, 64, 200].map(|count| (n, k, count));
+    [4, 16, 64].into_iter().flat_map(move |n| [1, 16].into_iter().flat_map(move |k| counts(n, k)))
+}
+
 fn main() {
     let milliseconds = std::env::args().nth(1).map_or(9, |a| a.parse().expect("milliseconds"));
     let name = std::env::args().nth(2).unwrap_or_default();
@@ -235,29 +275,6 @@ fn main() {
     println!(
         "Before each run the sum is copied anew, untimed; nothing else is cleared. What a call gives is used. At least 30 runs a side."
     );
-    println!(
-        "call                           n   K  entr  cap      ours    median      Rust    median   ratio  median     check   (microseconds; least, median; the check's median)"
-    );
-    let mut all = Vec::new();
-    for n in [4, 16, 64] {
-        for k in [1, 16] {
-            for count in [16, 64, 200] {
-                for row in rows(n, k, count).into_iter().filter(|r| r.name.contains(&name)) {
-                    let enough = needed(&row);
-                    let mut capacities = vec![enough, 256];
-                    capacities.dedup();
-                    for capacity in capacities {
-                        let m = measure(&row, capacity, span);
-                        print(&m);
-                        all.push(m);
-                    }
-                }
-            }
-        }
-    }
-    goals::print(&all);
-    let just = |m: &&Measured| m.k == 1 && (m.capacity < 256 || m.entries == 256);
-    let just: Vec<Measured> = all.drain(..).filter(|m| just(&m)).collect();
-    growth(&just, "by entries, n 16, K 1", |m| (m.n == 16).then_some(m.entries));
-    growth(&just, "by qubits, 64 entries, K 1", |m| (m.entries == 64).then_some(m.n));
+    calls(span, &name);
+    turns::time(span, &name);
 }

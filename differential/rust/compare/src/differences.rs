@@ -82,7 +82,8 @@ fn cutoffs_and_limits() {
 fn reset_drops() {
     let lost = with(|s| (s.cutoff, s.words[0], s.words[1]) = (0.25, 0.25f64.to_bits(), 1));
     tried(0, &lost, 2, Call::Reset(0), Some(&[]));
-    assert_eq!(Ours::holding(&lost, 2).call(Call::Reset(0)).counts.dropped, 1);
+    let a = Ours::holding(&lost, 2).call(Call::Reset(0));
+    assert_eq!((a.counts.dropped, a.lost.dropped), (1, 0.25));
 }
 
 fn picks() {

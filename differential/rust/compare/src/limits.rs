@@ -134,7 +134,7 @@ fn refused_fresh() {
     for (size, threshold, cutoff, number) in sizes.chain(bounds) {
         let mut store = [7; 14];
         let a = Ours::fresh_in(size, threshold, cutoff, &mut store);
-        let right = a.numbers() == [number, 0, 0, 0, 0, 0, 0] && a.header.words() == [0; 7] && store == [7; 14];
+        let right = a.numbers() == [number, 0, 0, 0, 0, 0, 0, 0, 0] && a.header.words() == [0; 7] && store == [7; 14];
         assert!(right, "THEY DIFFER: fresh {size:?} {threshold} {cutoff}: {a:?}");
     }
 }

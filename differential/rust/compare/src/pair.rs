@@ -31,7 +31,7 @@ fn same_words(what: &str, ours: &[u64], theirs: &[u64]) -> Result<(), Difference
 
 /// A call that changes nothing: the number, the header as given, a place and a length, and 0 in all else.
 fn plain(what: &str, a: &Answer, number: u64, h: &Header, place: usize, length: usize) -> Result<(), Difference> {
-    same(what, a.numbers(), [number, 0, 0, 0, 0, place as u64, length as u64])?;
+    same(what, a.numbers(), [number, 0, 0, 0, 0, place as u64, length as u64, 0, 0])?;
     same(&format!("header after {what}"), a.header.words(), h.words())
 }
 
@@ -47,7 +47,7 @@ impl Pair {
     pub fn fresh(size: Size, threshold: f64, cutoff: f64) -> Result<Pair, Difference> {
         let (ours, a) = Ours::fresh(size, threshold, cutoff);
         let pair = Pair { ours, published: Published::fresh(size.n, size.k, threshold, cutoff) };
-        same("fresh", a.numbers(), [0; 7])?;
+        same("fresh", a.numbers(), [0; 9])?;
         pair.same_sums(size, threshold, cutoff)?;
         Ok(pair)
     }
@@ -78,7 +78,9 @@ impl Pair {
 
     fn accepted(&self, before: &Header, answer: Answer, watch: Watch) -> Result<Answer, Difference> {
         let counts = [watch.merged, watch.stored, watch.dropped, watch.compared].map(|c| c as u64);
-        same("number, counts, place, length", answer.numbers(), [0, counts[0], counts[1], counts[2], counts[3], 0, 0])?;
+        let lost = [watch.dropped_weight, watch.truncated_weight].map(f64::to_bits);
+        let numbers = [0, counts[0], counts[1], counts[2], counts[3], 0, 0, lost[0], lost[1]];
+        same("number, counts, place, length, lost", answer.numbers(), numbers)?;
         if watch.strayed {
             return Err("the published code compares a branch with other places than those of its key".to_string());
         }

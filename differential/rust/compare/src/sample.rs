@@ -4,11 +4,12 @@
 use crate::draw::{self, Draw, Shape};
 use crate::pair::Pair;
 use oracle::Call;
+use ours::list::parts;
 use ours::{Header, Ours};
 
 const CALLS: usize = 400;
-/// A record: seven numbers, and room for 581 words that a table or a view shows, which were 7 before.
-const RECORD: usize = 588;
+/// A record: eleven numbers, and room for 581 words that a table or a view shows, which were 7 before.
+const RECORD: usize = 592;
 
 pub fn run(seed: u64) {
     println!(
@@ -71,32 +72,15 @@ fn step(pair: &mut Pair, call: Call, d: &mut Draw) -> bool {
         let mut sampled = pair.published.sampled();
         let table = sampled.table();
         match d.below(4) {
-            0 => tell(pair, [11, 581, 0], &[], [0, 0, 0, 0, 0, 0, table.len() as u64], &table),
+            0 => tell(pair, [11, 581, 0], &[], [0, 0, 0, 0, 0, 0, table.len() as u64, 0, 0], &table),
             1 => {
                 let draw = d.unit();
-                tell(pair, [12, 0, 0], &[draw], [0, 0, 0, 0, 0, sampled.pick(draw) as u64, 0], &[]);
+                tell(pair, [12, 0, 0], &[draw], [0, 0, 0, 0, 0, sampled.pick(draw) as u64, 0, 0, 0], &[]);
             }
             _ => {}
         }
     }
     true
-}
-
-/// Kind, whole numbers and rates, as crates/perform has them.
-fn parts(call: Call) -> (u64, usize, usize, Vec<f64>) {
-    match call {
-        Call::Pauli(q, p) => (0, q, 0, p.to_vec()),
-        Call::Loss(q, p) => (1, q, 0, vec![p]),
-        Call::Depolarize1(q, p) => (2, q, 0, vec![p]),
-        Call::TwoPauli(p, q, rates) => (3, p, q, rates.to_vec()),
-        Call::Depolarize2(p, q, rate) => (4, p, q, vec![rate]),
-        Call::Reset(q) => (5, q, 0, vec![]),
-        Call::H(q) => (6, q, 0, vec![]),
-        Call::S(q) => (7, q, 0, vec![]),
-        Call::Cnot(a, b) => (8, a, b, vec![]),
-        Call::Truncate => (9, 0, 0, vec![]),
-        Call::Normalise => (10, 0, 0, vec![]),
-    }
 }
 
 // ---- lines
@@ -109,9 +93,12 @@ fn item(kind: u64, values: &[u64]) {
     println!("{kind} {}{}", values.len(), numbers(values));
 }
 
-fn tell(pair: &Pair, head: [u64; 3], rates: &[f64], record: [u64; 7], shown: &[u64]) {
+/// The answer's numbers begin the record; entries and flag follow.
+fn tell(pair: &Pair, head: [u64; 3], rates: &[f64], answer: [u64; 9], shown: &[u64]) {
     let rates: Vec<u64> = rates.iter().map(|r| r.to_bits()).collect();
     item(head[0], &[&head[1..], &rates].concat());
+    let header = published(pair).header.words();
+    let record = [&answer[..], &[header[3], header[6]]].concat();
     let mut whole = [&record[..], shown].concat();
     whole.resize(RECORD, 7);
     let mut line = format!("{} gives{}{}, record {}, text {}", numbers(&head), numbers(&record), left(pair), digest(&whole), digest(&[]));
@@ -121,11 +108,15 @@ fn tell(pair: &Pair, head: [u64; 3], rates: &[f64], record: [u64; 7], shown: &[u
     println!("{line}");
 }
 
-/// The header and the digest of the store, from what the published sum holds.
-fn left(pair: &Pair) -> String {
-    let size = pair.ours.header.size;
+/// What the published sum holds, as header and store.
+fn published(pair: &Pair) -> Ours {
     let [sum, _] = pair.published.sums();
-    let o = Ours::holding(&sum, size.capacity);
+    Ours::holding(&sum, pair.ours.header.size.capacity)
+}
+
+/// That header, and the digest of that store.
+fn left(pair: &Pair) -> String {
+    let o = published(pair);
     format!(", header{}, digest {}", numbers(&o.header.words()), digest(&o.store))
 }
 

@@ -11,6 +11,8 @@ pub struct Tally {
     pub calls: usize,
     refused: [usize; 11],
     counts: [u64; 4],
+    /// Calls that dropped weight, and such that truncated some.
+    lost: [usize; 2],
 }
 
 impl Tally {
@@ -29,6 +31,9 @@ impl Tally {
         for (sum, c) in self.counts.iter_mut().zip(&a.numbers()[1..5]) {
             *sum += c;
         }
+        for (calls, bits) in self.lost.iter_mut().zip(&a.numbers()[7..]) {
+            *calls += (*bits != 0) as usize;
+        }
     }
 
     pub fn print(&self, part: &str) {
@@ -36,6 +41,7 @@ impl Tally {
         let [merged, stored, dropped, compared] = self.counts;
         println!("{part}: {} calls agree; {} accepted, then looked at; refused {}", self.calls, self.refused[0], numbers.join(", "));
         println!("    branches merged {merged}, stored {stored}, dropped {dropped}; full comparisons {compared}");
+        println!("    weight was dropped by {} calls, truncated by {}", self.lost[0], self.lost[1]);
     }
 }
 

@@ -12,6 +12,9 @@ pub struct Watch {
     pub stored: usize,
     pub dropped: usize,
     pub compared: usize,
+    /// The weights of the dropped branches, added from 0 in order; those of the entries that truncating took, in list order.
+    pub dropped_weight: f64,
+    pub truncated_weight: f64,
     /// A branch was tested with other entries than those whose stored key equals its own, by rising place, up to the one it merged into.
     pub strayed: bool,
     /// Once all branches were merged: the entries, and their weights added from 0.
@@ -26,8 +29,8 @@ pub struct Watched {
 }
 
 impl Watched {
-    /// One branch, of this full key, merged.
-    fn one(&mut self, key: u64, merge: impl FnOnce(&mut Store) -> bool) -> bool {
+    /// One branch, of this full key and weight, merged.
+    fn one(&mut self, key: u64, weight: f64, merge: impl FnOnce(&mut Store) -> bool) -> bool {
         let count = self.inner.entries.len();
         let equal: Vec<usize> = (0..count).filter(|&i| self.inner.fingerprints[i] == key).collect();
         let start = self.inner.entries.as_ptr() as usize;
@@ -42,6 +45,7 @@ impl Watched {
         w.merged += merged as usize;
         w.stored += stored;
         w.dropped += dropped as usize;
+        w.dropped_weight += if dropped { weight } else { 0.0 };
         w.compared += seen.len();
         w.strayed |= if merged { seen.is_empty() || !equal.starts_with(&seen) } else { seen != equal };
         dropped
@@ -79,19 +83,25 @@ impl EntryStore<Row, u64, Coeffs> for Watched {
     fn insert_or_merge_batch(&mut self, branches: Vec<Branch<Row, u64, Coeffs>>, cutoff: &f64) -> bool {
         let mut any = self.inner.insert_or_merge_batch(Vec::new(), cutoff); // rebuilds the keys, if dirty
         for b in branches {
-            any |= self.one(b.2 ^ b.3, |s| s.insert_or_merge_batch(vec![b], cutoff));
+            any |= self.one(b.2 ^ b.3, b.1, |s| s.insert_or_merge_batch(vec![b], cutoff));
         }
         self.all(any)
     }
     fn insert_or_merge_mutated_branches(&mut self, branches: Vec<(usize, BranchMutation, f64, u64, u64)>, cutoff: &f64) -> bool {
         let mut any = self.inner.insert_or_merge_mutated_branches(Vec::new(), cutoff);
         for b in branches {
-            any |= self.one(b.3 ^ b.4, |s| s.insert_or_merge_mutated_branches(vec![b], cutoff));
+            any |= self.one(b.3 ^ b.4, b.2, |s| s.insert_or_merge_mutated_branches(vec![b], cutoff));
         }
         self.all(any)
     }
+    /// Entries are marked by their places before: those that are not there after it went.
     fn retain<F: FnMut(&Tab, &f64) -> bool>(&mut self, f: F) {
-        self.inner.retain(f)
+        let weights: Vec<f64> = self.inner.entries.iter().map(|e| e.1).collect();
+        self.inner.entries.iter_mut().enumerate().for_each(|(i, e)| e.0.place = i);
+        self.inner.retain(f);
+        let left: Vec<usize> = self.inner.entries.iter().map(|e| e.0.place).collect();
+        let went = (0..weights.len()).filter(|i| !left.contains(i));
+        self.watch.truncated_weight = went.fold(0.0, |t, i| t + weights[i]);
     }
     fn drain_where<F: FnMut(&Tab) -> bool>(&mut self, pred: F) -> Vec<Branch<Row, u64, Coeffs>> {
         self.inner.drain_where(pred)

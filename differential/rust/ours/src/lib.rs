@@ -1,5 +1,7 @@
 //! Our side: the proved calls of libtableau_sum.a. crates/tableau_sum says what each does.
 
+pub mod list;
+
 use oracle::{Call, Sum};
 
 #[repr(C)]
@@ -28,10 +30,17 @@ pub struct Counts {
 }
 #[repr(C)]
 #[derive(Clone, Copy, Debug)]
+pub struct Lost {
+    pub dropped: f64,
+    pub truncated: f64,
+}
+#[repr(C)]
+#[derive(Clone, Copy, Debug)]
 pub struct Answer {
     pub number: u64,
     pub header: Header,
     pub counts: Counts,
+    pub lost: Lost,
     pub place: usize,
     pub length: usize,
 }
@@ -67,11 +76,12 @@ impl Header {
     }
 }
 impl Answer {
-    /// Everything but the header: number, counts, place, length.
-    pub fn numbers(&self) -> [u64; 7] {
+    /// Everything but the header: number, counts, place, length, and the bits of what was lost.
+    pub fn numbers(&self) -> [u64; 9] {
         let c = self.counts;
         let rest = [c.merged, c.stored, c.dropped, c.compared, self.place, self.length].map(|v| v as u64);
-        [self.number, rest[0], rest[1], rest[2], rest[3], rest[4], rest[5]]
+        let lost = [self.lost.dropped, self.lost.truncated].map(f64::to_bits);
+        [self.number, rest[0], rest[1], rest[2], rest[3], rest[4], rest[5], lost[0], lost[1]]
     }
 }
 

@@ -52,7 +52,7 @@ returns c =
     let m = c .before .before in
     let k = m .before .before .before .before in
     let a = from k .args in
-    answer-made (callOn (a .o)) (a .h) (m .make .ensures) (lent k)
+    answer-made (callOn (a .o)) (a .h) (m .make .ensures .is) (lent k)
 
 pub answer-on-copy-spec : {M : Type 1} → statement M
 answer-on-copy-spec =

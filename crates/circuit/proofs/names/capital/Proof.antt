@@ -1,5 +1,4 @@
 -- `circuit::names::capital` meets its contract: a case for each side of the small letters. Assumes nothing.
-use mathlib.Core.Bool.{cond}
 use borrow.Author.Needs.{needs}
 use borrow.Author.Tests.{lt-ltb, le-ltb}
 use Rattle.circuit.specs.Names.{capital}

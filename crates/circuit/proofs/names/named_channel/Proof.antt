@@ -1,5 +1,5 @@
 -- `circuit::names::named_channel` meets its contract: each name in turn. Assumes nothing.
-use mathlib.Core.Path.{_≡_, sym, _∙_}
+use mathlib.Core.Path.{sym, _∙_}
 use borrow.Author.Needs.{needs}
 use Rattle.circuit.specs.Names.{namedChannel}
 use Rattle.circuit.proofs.names.named_channel.Statement.{statement}

@@ -1,9 +1,20 @@
--- `circuit::targets::qubit_at` meets its contract. Assumes nothing.
-use native.Mathlib.Omega.{arith}
-use Rattle.circuit.proofs.Steps.{bad-step, wider}
+-- `circuit::targets::qubit_at` meets its contract: the number, and the word that it is to fill. Assumes nothing.
+use mathlib.Core.Path.{_≡_, _∙_}
 use borrow.Author.Needs.{needs}
+use Rattle.circuit.specs.Targets.{qubitOf, qubitAt}
+use Rattle.circuit.specs.declared.numbers.Whole.{Whole}
+use Rattle.circuit.proofs.Reading.{not-all, no-word, all-word}
 use Rattle.circuit.proofs.targets.qubit_at.Statement.{statement}
 use Rattle.circuit.proofs.targets.qubit_at.Tie as tie
+
+-- the word has a byte, and all of them are digits: the number decides
+decided : (c : tie.Else2) (w : Whole) → c .before .before .before .whole-at .result .whole ≡ w
+    → qubitOf w (c .before .before .before .before .before .before .args .from) (c .before .before .before .before .end .result)
+    ≡ qubitAt (c .before .before .before .before .before .before .args .line .now) (c .before .before .before .before .before .before .args .from)
+decided c w h =
+    let r = c .before .before .before in
+    let a = r .before .before .before .args in
+    all-word (a .line .now) (a .from) (r .before .end .result) (r .whole-at .result) (r .whole-at .ensures .1) (r .before .end .ensures .1) (c .before .if1 .left) (c .if2 .left) w h
 
 end-requires : tie.Need-end-requires
 end-requires c κs = search needs
@@ -15,13 +26,22 @@ bad-requires : tie.Need-bad-requires
 bad-requires c κs = search needs
 
 returns : tie.Need-returns
-returns c = bad-step (c .bad .ensures) (omega arith) (omega arith) (omega arith)
+returns c =
+    let r = c .before .before .before in
+    let a = r .before .before .before .args in
+    c .bad .ensures
+    ∙ not-all (a .line .now) (a .from) (r .before .end .result) (r .whole-at .result) (r .whole-at .ensures .1) (r .before .end .ensures .1) (c .before .if1 .taken)
 
 bad-requires-2 : tie.Need-bad-requires-2
 bad-requires-2 c κs = search needs
 
 returns-2 : tie.Need-returns-2
-returns-2 c = bad-step (c .bad2 .ensures) (omega arith) (omega arith) (omega arith)
+returns-2 c =
+    let r = c .before .before .before .before in
+    let a = r .before .before .before .args in
+    c .bad2 .ensures
+    ∙ no-word (a .line .now) (a .from) (r .before .end .result) (r .whole-at .result) (r .whole-at .ensures .1) (r .before .end .ensures .1) (c .before .before .if1 .left)
+    (c .before .if2 .taken)
 
 enum-known-whole : tie.Need-enum-known-whole
 enum-known-whole c = search needs
@@ -42,13 +62,15 @@ bad-requires-4 : tie.Need-bad-requires-4
 bad-requires-4 c κs = search needs
 
 returns-3 : tie.Need-returns-3
-returns-3 c = wider (c .qubit-of .ensures) (omega arith) (omega arith)
+returns-3 c = c .qubit-of .ensures ∙ decided (c .before .before .before .before) _ (c .before .before .whole .given .1)
 
 returns-4 : tie.Need-returns-4
-returns-4 c = bad-step (c .bad3 .ensures) (omega arith) (omega arith) (omega arith)
+unfolding qubitOf
+returns-4 c = c .bad3 .ensures ∙ decided (c .before .before .before) _ (c .before .enum-told .given .1)
 
 returns-5 : tie.Need-returns-5
-returns-5 c = bad-step (c .bad4 .ensures) (omega arith) (omega arith) (omega arith)
+unfolding qubitOf
+returns-5 c = c .bad4 .ensures ∙ decided (c .before .before .before) _ (c .before .enum-told2 .given .1)
 
 pub qubit-at-spec : {M : Type 1} → statement M
 qubit-at-spec =

@@ -1,6 +1,5 @@
 -- `circuit::targets::reach_from` meets its contract: each turn goes on in the line. Assumes nothing.
-use mathlib.Core.Path.{_≡_}
-use Prim.Native.Nat.{ℕ, _+_, _-_, _*_, _≤_, _<_}
+use Prim.Native.Nat.{_-_, _≤_}
 use native.Mathlib.Omega.{arith}
 use lib.ListN.{length}
 use borrow.Author.Needs.{needs}
@@ -39,11 +38,11 @@ returns-2 c = search needs
 
 more-requires : tie.Need-more-requires Inv-loop μ-loop
 more-requires c κs =
-    let k = c in let s = k .before .seen2 .given in omega (arith, k .before .before .before .before .next .ensures .qubits (s .0 .0) (s .0 .1 .0) (s .1))
+    let k = c in let s = k .before .seen2 .given in omega (arith, k .before .before .before .before .next .ensures .0 .qubits (s .0 .0) (s .0 .1 .0) (s .1))
 
 more-requires-2 : tie.Need-more-requires-2 Inv-loop μ-loop
 more-requires-2 c κs =
-    let k = c .before in let s = k .before .seen2 .given in omega (arith, k .before .before .before .before .next .ensures .qubits (s .0 .0) (s .0 .1 .0) (s .1))
+    let k = c .before in let s = k .before .seen2 .given in omega (arith, k .before .before .before .before .next .ensures .0 .qubits (s .0 .0) (s .0 .1 .0) (s .1))
 
 reached-requires-3 : tie.Need-reached-requires-3 Inv-loop μ-loop
 reached-requires-3 c κs = search needs
@@ -53,7 +52,7 @@ returns-3 c = search needs
 
 loop-less : tie.Need-loop-less Inv-loop μ-loop
 loop-less c =
-    let k = c .before .before .before in let s = k .before .seen2 .given in omega (arith, k .before .before .before .before .next .ensures .qubits (s .0 .0) (s .0 .1 .0) (s .1))
+    let k = c .before .before .before in let s = k .before .seen2 .given in omega (arith, k .before .before .before .before .next .ensures .0 .qubits (s .0 .0) (s .0 .1 .0) (s .1))
 
 loop-again : tie.Need-loop-again Inv-loop μ-loop
 loop-again c = search needs

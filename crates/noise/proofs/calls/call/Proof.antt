@@ -1,7 +1,13 @@
 -- `noise::call` meets its contract: a refusal, or the channel itself. Assumes nothing.
-use mathlib.Core.Path.{sym, _∙_}
-use Rattle.model.specs.Calls.{Lent, held, noise, acted}
+use mathlib.Core.Path.{_≡_, sym, _∙_}
+use mathlib.Core.List.{List}
+use Prim.Native.Nat.{ℕ}
+use Rattle.model.specs.Channels.{Noise}
+use Rattle.model.specs.Calls.{Lent, held, noise, acted, gave, step}
+use Rattle.model.specs.Known.{Stepped}
+use Rattle.model.specs.declared.Answer.{Answer}
 use Rattle.model.proofs.Steps.{turned-away, let-through, refusal}
+use Rattle.model.proofs.Known.{stepped}
 use borrow.Author.Needs.{needs}
 use Rattle.noise.proofs.calls.call.Statement.{statement}
 use Rattle.noise.proofs.calls.call.Tie as tie
@@ -12,6 +18,10 @@ start c = c .before .before .before
 -- the sum as it is given
 abbrev given : tie.Start → Lent
 given c = held (c .args .h) (c .args .store .now)
+
+-- what is known is known afterwards, once the step is made
+makes : (b : tie.Start) (n : Noise) (r : Answer) (w : List ℕ) → gave r w ≡ step (noise n) (given b) → Stepped (noise n) (b .args .known) (given b) r w
+makes b n r w e = stepped (noise n) (b .args .known) (given b) r w (b .pre .1) e
 
 noise-number-requires : tie.Need-noise-number-requires
 noise-number-requires c κs = search needs
@@ -26,7 +36,7 @@ returns : tie.Need-returns
 returns c = λ n h m.
     let t = c .before .before in
     let x = given (start t) in
-    refusal x _ (c .plain-answer .ensures) (t .noise-number .ensures .1 n h m ∙ turned-away x _ (acted (noise n) x) (c .before .if1 .taken))
+    makes (start t) n _ _ (refusal x _ (c .plain-answer .ensures) (t .noise-number .ensures .1 n h m ∙ turned-away x _ (acted (noise n) x) (c .before .if1 .taken)))
 
 run-requires : tie.Need-run-requires
 run-requires c κs = let t = c .before .before in t .noise-number .ensures .0 (c .before .if1 .left)
@@ -39,7 +49,7 @@ returns-2 c = λ n h m.
     let e = c .before .before .before .before in
     let t = e .before in
     let x = given (start t) in
-    c .before .before .run .ensures n h ∙ sym (t .noise-number .ensures .1 n h m ∙ let-through x _ (acted (noise n) x) (e .if1 .left))
+    makes (start t) n _ _ (c .before .before .run .ensures n h ∙ sym (t .noise-number .ensures .1 n h m ∙ let-through x _ (acted (noise n) x) (e .if1 .left)))
 
 pub call-spec : {M : Type 1} → statement M
 call-spec =

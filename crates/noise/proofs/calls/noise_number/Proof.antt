@@ -32,7 +32,7 @@ returns c =
             sound = s;
             cutoff = front-cutoff x (o .own-number .result) f;
             qubits = below-more n 64 (b .args .arms .shape) (s .packed .sized .qubits .high) (o .own-number .ensures .0 (front-passed _ x f .own-0));
-            few = b .pre;
+            few = b .pre .0;
           },
       λ a h m. by-front (noise a) x _ _ (o .own-number .ensures .1 a h m ∙ own-is a (x .header .size) (x .header .count)) (c .front .ensures),
     )

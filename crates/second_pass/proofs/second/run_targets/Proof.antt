@@ -1,23 +1,51 @@
--- `second_pass::second::run_targets` is safe and ends: each turn goes on in the line. Assumes nothing.
-use mathlib.Core.Path.{_≡_}
+-- `second_pass::second::run_targets` meets its contract: the calls from here on, made on what the sum is now, are the rest of those of the line.
+-- Each turn goes on in the line. Assumes nothing.
+use mathlib.Core.Path.{_≡_, refl, sym, ap, subst, _∙_}
+use mathlib.Core.Bool.{Bool}
+use mathlib.Core.List.{List}
 use Prim.Native.Nat.{_-_}
 use native.Mathlib.Omega.{arith}
 use lib.ListN.{length}
+use denote.Ref.{now}
+use borrow.Author.Tests.{not-true, not-false}
 use borrow.Author.Needs.{needs}
+use Rattle.model.specs.Calls.{Call, Lent, held}
+use Rattle.model.specs.Known.{Known}
+use Rattle.circuit.specs.Names.{takesPairs}
+use Rattle.circuit.specs.Targets.{targetAt}
+use Rattle.circuit.proofs.TargetLists.{no-target}
+use Rattle.passes.specs.Going.{isGoing}
+use Rattle.second_pass.specs.Lines.{callsOf, Made}
+use Rattle.second_pass.proofs.Lines.{none-left, calls-end, turn-ends, turn-goes-on}
 use Rattle.second_pass.proofs.second.run_targets.Statement.{statement}
 use Rattle.second_pass.proofs.second.run_targets.Tie as tie
 
 abbrev Inv-loop : tie.InvT-loop
-Inv-loop line l act store₀ scratch₀ wanted pairs rates run₀ at₀ store scratch run at = (length store ≡ length store₀) × (length scratch ≡ length scratch₀)
+Inv-loop line l act store₀ wanted pairs rates run₀ at₀ store run at =
+    (length store ≡ length store₀)
+    × Known (run .known) (held (run .header) store)
+    × ((y : Lent) (on : Bool) → Made (callsOf act rates line at) (held (run .header) store) y on → Made (callsOf act rates line at₀) (held (run₀ .header) store₀) y on)
 
 abbrev μ-loop : tie.MeasureT-loop
-μ-loop line l act store₀ scratch₀ wanted pairs rates run₀ at₀ store scratch run at = length line - at
+μ-loop line l act store₀ wanted pairs rates run₀ at₀ store run at = length line - at
+
+abbrev from : tie.At-loop Inv-loop μ-loop → tie.Start Inv-loop μ-loop
+from l = l .before .before .before .before .before
+
+-- what is seen from a place of the line on, by the instruction's kind of targets
+seen-at : (c : tie.After-target Inv-loop μ-loop) →
+    let l = c .before in
+    let a = from l .args in c .target .result ≡ targetAt (takesPairs (a .act)) (now (a .line)) (l .loop .at)
+seen-at c =
+    let l = c .before in
+    let a = from l .args in
+    c .target .ensures .1 ∙ ap (λ (b : Bool). targetAt b (now (a .line)) (l .loop .at)) (l .before .before .takes-pairs .ensures)
 
 takes-pairs-requires : tie.Need-takes-pairs-requires Inv-loop μ-loop
 takes-pairs-requires c κs = search needs
 
 loop-holds : tie.Need-loop-holds Inv-loop μ-loop
-loop-holds c = search needs
+loop-holds c = (refl, c .before .before .before .before .pre, λ y on m. m)
 
 target-requires : tie.Need-target-requires Inv-loop μ-loop
 target-requires c κs = search needs
@@ -28,36 +56,60 @@ enum-known-seen c = search needs
 same-length : tie.Need-same-length Inv-loop μ-loop
 same-length c = search needs
 
-same-length-2 : tie.Need-same-length-2 Inv-loop μ-loop
-same-length-2 c = search needs
-
 returns : tie.Need-returns Inv-loop μ-loop
-returns c = search needs
+returns c =
+    let l = c .before .before in
+    let a = from l .args in
+    let t = c .before .target .result in
+    let y = held (l .loop .run .header) (l .loop .store) in
+    let on = isGoing (l .loop .run .pass) in
+    let none = calls-end (a .act) (a .l .rates) (now (a .line)) (l .loop .at) t (seen-at (c .before)) (no-target (t .seen) (c .match .keys2)) in
+    (l .loop .inv .2 y on (subst (λ (cs : List Call). Made cs y y on) (sym none) (none-left y on)), l .loop .inv .1)
 
 call-requires : tie.Need-call-requires Inv-loop μ-loop
-call-requires c κs = search needs
+call-requires c κs = c .before .before .before .before .before .loop .inv .1
 
 is-going-requires : tie.Need-is-going-requires Inv-loop μ-loop
 is-going-requires c κs = search needs
 
-same-length-3 : tie.Need-same-length-3 Inv-loop μ-loop
-same-length-3 c = search needs
-
-same-length-4 : tie.Need-same-length-4 Inv-loop μ-loop
-same-length-4 c = search needs
+same-length-2 : tie.Need-same-length-2 Inv-loop μ-loop
+same-length-2 c = search needs
 
 returns-2 : tie.Need-returns-2 Inv-loop μ-loop
-returns-2 c = search needs
+returns-2 c =
+    let k = c .before .before .before .before .call in
+    let s = c .before .before .before .before .before .before .before .seen .given in
+    let t = c .before .before .before .before .before .before .before .before .before in
+    let l = t .before in
+    let a = from l .args in
+    let y = held (k .result .header) (k .last .1 .1 .1 .0) in
+    let on = isGoing (k .result .pass) in (
+      l .loop .inv .2 y on
+          (turn-ends (a .act) (a .l .rates) (now (a .line)) (l .loop .at) (t .target .result) (seen-at t) (s .0 .0) (s .0 .1 .0) (s .1)
+          (held (l .loop .run .header) (l .loop .store)) y (k .ensures .0) on (sym (c .before .is-going .ensures) ∙ not-true _ (c .if1 .taken))),
+      k .ensures .1 .1,
+    )
 
 loop-less : tie.Need-loop-less Inv-loop μ-loop
 loop-less c =
-    let t = c .before .before .before .before .before .before .before .before .before .before .before .before .target .ensures in
-    let s = c .before .before .before .before .before .before .before .before .before .before .seen .given in
-    let q = t .qubits (s .0 .0) (s .0 .1 .0) (s .1) in
-    omega (arith, q, t .onward)
+    let s = c .before .before .before .before .before .before .before .seen .given in
+    let t = c .before .before .before .before .before .before .before .before .before .target .ensures .0 in
+    omega (arith, t .qubits (s .0 .0) (s .0 .1 .0) (s .1), t .onward)
 
 loop-again : tie.Need-loop-again Inv-loop μ-loop
-loop-again c = search needs
+loop-again c =
+    let k = c .before .before .before .before .call in
+    let s = c .before .before .before .before .before .before .before .seen .given in
+    let t = c .before .before .before .before .before .before .before .before .before in
+    let l = t .before in
+    let a = from l .args in (
+      search needs,
+      k .ensures .1 .1,
+      λ z on m.
+          l .loop .inv .2 z on
+          (turn-goes-on (a .act) (a .l .rates) (now (a .line)) (l .loop .at) (t .target .result) (seen-at t) (s .0 .0) (s .0 .1 .0) (s .1)
+          (held (l .loop .run .header) (l .loop .store)) (held (k .result .header) (k .last .1 .1 .1 .0)) (k .ensures .0) (k .ensures .1 .0 (sym (c .before .is-going .ensures) ∙ not-false _ (c .if1 .left))) z on m),
+    )
 
 pub run-targets-spec : {M : Type 1} → statement M
 run-targets-spec =
@@ -70,12 +122,10 @@ run-targets-spec =
     target-requires
     enum-known-seen
     same-length
-    same-length-2
     returns
     call-requires
     is-going-requires
-    same-length-3
-    same-length-4
+    same-length-2
     returns-2
     loop-less
     loop-again)

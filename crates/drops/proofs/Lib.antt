@@ -1,3 +1,0 @@
-pub mod Light
-pub mod Taken
-pub mod Runs

@@ -1,0 +1,75 @@
+-- `replay::tell_records` is safe and ends. Assumes nothing.
+use Prim.Native.Nat.{_-_, _≤_}
+use lib.ListN.{length}
+use borrow.Author.Needs.{needs}
+use Rattle.replay.proofs.tell_records.Statement.{statement}
+use Rattle.replay.proofs.tell_records.Tie as tie
+
+abbrev Inv-loop : tie.InvT-loop
+Inv-loop log shown count len at₀ i₀ t7 at i = (i ≤ count) × (at ≤ length log)
+
+abbrev μ-loop : tie.MeasureT-loop
+μ-loop log shown count len at₀ i₀ t7 at i = count - i
+
+returns : tie.Need-returns Inv-loop μ-loop
+returns c = search needs
+
+add-len : tie.Need-add-len Inv-loop μ-loop
+add-len c = search needs
+
+loop-holds : tie.Need-loop-holds Inv-loop μ-loop
+loop-holds c = search needs
+
+sub-if2 : tie.Need-sub-if2 Inv-loop μ-loop
+sub-if2 c = search needs
+
+returns-2 : tie.Need-returns-2 Inv-loop μ-loop
+returns-2 c = search needs
+
+add-numbers : tie.Need-add-numbers Inv-loop μ-loop
+add-numbers c = search needs
+
+numbers-requires : tie.Need-numbers-requires Inv-loop μ-loop
+numbers-requires c κs = search needs
+
+slice-aggregate-text : tie.Need-slice-aggregate-text Inv-loop μ-loop
+slice-aggregate-text c = search needs
+
+text-requires : tie.Need-text-requires Inv-loop μ-loop
+text-requires c κs = search needs
+
+add-at : tie.Need-add-at Inv-loop μ-loop
+add-at c = search needs
+
+add-i : tie.Need-add-i Inv-loop μ-loop
+add-i c = search needs
+
+loop-less : tie.Need-loop-less Inv-loop μ-loop
+loop-less c = search needs
+
+loop-again : tie.Need-loop-again Inv-loop μ-loop
+loop-again c = search needs
+
+returns-3 : tie.Need-returns-3 Inv-loop μ-loop
+returns-3 c = search needs
+
+pub tell-records-spec : {M : Type 1} → statement M
+tell-records-spec =
+    tie.close
+    (tie.spec
+    Inv-loop
+    μ-loop
+    returns
+    add-len
+    loop-holds
+    sub-if2
+    returns-2
+    add-numbers
+    numbers-requires
+    slice-aggregate-text
+    text-requires
+    add-at
+    add-i
+    loop-less
+    loop-again
+    returns-3)

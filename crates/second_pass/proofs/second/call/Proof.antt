@@ -1,0 +1,112 @@
+-- `second_pass::second::call` meets its contract: the run has the header that the call left, and goes on only if it was accepted. Assumes nothing.
+use mathlib.Core.Path.{_≡_, refl, _∙_}
+use denote.Ref.{now}
+use borrow.Author.Needs.{needs}
+use Rattle.model.specs.Calls.{Lent, held, step}
+use Rattle.model.specs.Known.{Known}
+use Rattle.model.specs.Demand3.{next}
+use Rattle.passes.specs.Going.{goes}
+use Rattle.calls.specs.Instructions.{callOn}
+use Rattle.second_pass.specs.declared.second.Run.{Run}
+use Rattle.second_pass.proofs.Lines.{stands, call-is, call-known, call-accepted}
+use Rattle.second_pass.proofs.second.call.Statement.{statement}
+use Rattle.second_pass.proofs.second.call.Tie as tie
+
+abbrev from : tie.After-make → tie.Start
+from c = c .before .before .before .before .before .before .before .before
+
+-- the sum as it is given
+abbrev given : tie.After-make → Lent
+given c = held (from c .args .r .header) (now (from c .args .store))
+
+-- what a run is that has the header of the one which took the call's answer over, and knows what that one knows
+module _ (c : tie.After-with-answer) (r : Run) (e : r .header ≡ c .with-answer .result .header) (f : r .known ≡ c .with-answer .result .known) where
+  abbrev m : tie.After-make
+  m = c .before .before .before
+
+  is : held (r .header) (m .make .last .1 .0) ≡ next (step (callOn (from m .args .o)) (given m))
+  is = call-is (callOn (from m .args .o)) (from m .args .r .known) (given m) (m .make .result) (m .make .last .1 .0) (m .make .ensures) r (e ∙ c .with-answer .ensures .0) (f ∙ c .with-answer .ensures .1)
+
+  known : Known (r .known) (held (r .header) (m .make .last .1 .0))
+  known = call-known (callOn (from m .args .o)) (from m .args .r .known) (given m) (m .make .result) (m .make .last .1 .0) (m .make .ensures) r (e ∙ c .with-answer .ensures .0) (f ∙ c .with-answer .ensures .1)
+
+weight-at-stake-requires : tie.Need-weight-at-stake-requires
+weight-at-stake-requires c κs = search needs
+
+make-requires : tie.Need-make-requires
+make-requires c κs = search needs
+
+with-answer-requires : tie.Need-with-answer-requires
+with-answer-requires c κs = search needs
+
+write-if-requires : tie.Need-write-if-requires
+write-if-requires c κs = search needs
+
+ended-requires : tie.Need-ended-requires
+ended-requires c κs = search needs
+
+same-length : tie.Need-same-length
+same-length c = search needs
+
+returns : tie.Need-returns
+unfolding goes
+returns c =
+    let w = c .before .before .before .before in
+    let r = c .ended .result in
+    let e = c .ended .ensures in
+    (is w r (e .1) (e .2), (λ g. absurd (stands (r .pass) (e .0) refl g), known w r (e .1) (e .2)))
+
+ended-requires-2 : tie.Need-ended-requires-2
+ended-requires-2 c κs = search needs
+
+same-length-2 : tie.Need-same-length-2
+same-length-2 c = search needs
+
+returns-2 : tie.Need-returns-2
+unfolding goes
+returns-2 c =
+    let w = c .before .before .before .before .before in
+    let r = c .ended2 .result in
+    let e = c .ended2 .ensures in
+    (is w r (e .1) (e .2), (λ g. absurd (stands (r .pass) (e .0) refl g), known w r (e .1) (e .2)))
+
+lost-after-requires : tie.Need-lost-after-requires
+lost-after-requires c κs = search needs
+
+with-totals-requires : tie.Need-with-totals-requires
+with-totals-requires c κs = search needs
+
+same-length-3 : tie.Need-same-length-3
+same-length-3 c = search needs
+
+returns-3 : tie.Need-returns-3
+returns-3 c =
+    let w = c .before .before .before .before .before .before in
+    let m = w .before .before .before in
+    let r = c .with-totals .result in
+    let e = c .with-totals .ensures in (
+      is w r (e .0) (e .1),
+      (
+        λ g. call-accepted (callOn (from m .args .o)) (from m .args .r .known) (given m) (m .make .result) (m .make .last .1 .0) (m .make .ensures) (c .before .before .before .if1 .left),
+        known w r (e .0) (e .1),
+      ),
+    )
+
+pub call-spec : {M : Type 1} → statement M
+call-spec =
+    tie.close
+    (tie.spec
+    weight-at-stake-requires
+    make-requires
+    with-answer-requires
+    write-if-requires
+    ended-requires
+    same-length
+    returns
+    ended-requires-2
+    same-length-2
+    returns-2
+    lost-after-requires
+    with-totals-requires
+    same-length-3
+    returns-3)
