@@ -10,7 +10,7 @@ use Rattle.model.specs.Sum.{total}
 use Rattle.model.specs.Calls.{Call, Kind, branching, turning, moving, looking, kindOf, Lent, front}
 use Rattle.model.specs.declared.Lost.{Lost}
 
--- only channels and resets drop and truncate
+-- of the calls that instructions stand for only channels and resets drop and truncate (none stands for `truncate`)
 abbrev pub losing : Kind → Bool
 losing (branching b) = true
 losing turning = false
