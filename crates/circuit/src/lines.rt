@@ -41,7 +41,7 @@ pub enum Fault {
     // I_ERROR without [loss], and I without [reset_loss].
     LossTag,
     ResetTag,
-    // No decimal number; one of more than 15 digits; one that no f64 is large enough for.
+    // No decimal number; one of more than 19 digits; one that no f64 is large enough for.
     Number,
     Digits,
     Infinite,

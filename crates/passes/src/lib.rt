@@ -2,6 +2,7 @@
 use circuit::Fault;
 use input::Window;
 ghost use mathlib.Core.Path.{_≡_};
+ghost use mathlib.Core.Bool.{true};
 ghost use Rattle.passes.specs.Going.{isGoing};
 
 // Why a pass stands still.
@@ -65,7 +66,7 @@ pub fn next(n: u64) -> u64 {
 
 // The pass at its next line.
 pub fn moved(pass: Pass, window: Window) -> Pass
-    ensures { λ r. ⌜ r .window ≡ window ⌝ }
+    ensures { λ r. ⌜ (r .window ≡ window) × (r .outcome ≡ Outcome.Going) ⌝ }
 {
     Pass {
         window,
@@ -93,7 +94,9 @@ pub fn ended(pass: Pass, outcome: Outcome, from: usize, to: usize) -> Pass
 }
 
 // .. is in or out of a block.
-pub fn at_depth(pass: Pass, depth: usize) -> Pass {
+pub fn at_depth(pass: Pass, depth: usize) -> Pass
+    ensures { λ r. ⌜ r .outcome ≡ Outcome.Going ⌝ }
+{
     let window = pass.window;
     Pass {
         window,
@@ -111,7 +114,9 @@ pub fn resumed(pass: Pass) -> Pass {
 }
 
 // .. goes on at another offset, after this line.
-pub fn jumped(pass: Pass, offset: u64, line: u64) -> Pass {
+pub fn jumped(pass: Pass, offset: u64, line: u64) -> Pass
+    ensures { λ r. ⌜ r .outcome ≡ Outcome.Going ⌝ }
+{
     Pass {
         window: input::jumped(pass.window, offset),
         line,
@@ -155,7 +160,9 @@ pub fn can_go_on(pass: Pass) -> bool {
     }
 }
 
-pub fn is_done(pass: Pass) -> bool {
+pub fn is_done(pass: Pass) -> bool
+    ensures { λ r. ⌜ (r ≡ true → pass .outcome ≡ Outcome.Done) ⌝ }
+{
     let outcome = pass.outcome;
     match outcome {
         Outcome::Done => true,

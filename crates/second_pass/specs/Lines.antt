@@ -1,16 +1,21 @@
--- What the second pass does to the sum: the calls that the lines stand for, made one after the other, up to the first that is refused.
+-- What the second pass does to the sum, and how it ends: the calls that the lines stand for, made one after the other, up to the first that is refused.
 -- (A line is what was read; that it is the circuit's is no matter of contracts.) Assumes nothing.
 use Prim.Native.Nat.{ℕ}
 use mathlib.Core.Path.{_≡_}
 use mathlib.Core.Bool.{Bool, true, false}
-use mathlib.Core.List.{List, [], _∷_, map}
+use mathlib.Core.List.{List, [], _∷_, _++_, map}
 use lib.Ieee.{Float}
 use Rattle.model.specs.Calls.{Call, Lent, step}
-use Rattle.model.specs.Demand3.{next}
+use Rattle.model.specs.Demand3.{next, afterCalls, madeOf}
+use Rattle.passes.specs.declared.Outcome.{Outcome}
+use Rattle.passes.specs.declared.Outcome.the-variants as Outcome
+use Rattle.input.specs.declared.Found.{Found}
+use Rattle.input.specs.declared.Found.the-variants as Found
 use Rattle.circuit.specs.Names.{takesPairs}
 use Rattle.circuit.specs.Lines.{lineOf}
 use Rattle.circuit.specs.Targets.{targetsFrom}
 use Rattle.circuit.specs.declared.lines.Act.{Act}
+use Rattle.circuit.specs.declared.lines.Fault.{Fault}
 use Rattle.circuit.specs.declared.lines.Item.{Item}
 use Rattle.circuit.specs.declared.lines.Item.the-variants.{Nothing, Call as call, Repeat, Close, Bad}
 use Rattle.calls.specs.Instructions.{callOf}
@@ -31,20 +36,98 @@ callsFor (Bad fault) rates text at = []
 unfoldable pub lineCalls : List ℕ → List Call
 lineCalls text = let l = lineOf text in callsFor (l .item) (l .rates) text (l .targets)
 
--- CALLS, made in order on x, which left y. `on`: all were made and accepted, and the pass goes on. Otherwise it was left off with the first that was
--- refused, or before it: a trace that cannot be written, or too much that was lost, ends a pass too
-pub data Made : List Call → Lent → Lent → Bool → Type 0 where
-  all-made : {x : Lent} → Made [] x x true
-  left-off : {cs : List Call} {x : Lent} → Made cs x x false
-  accepted : {c : Call} {cs : List Call} {x y : Lent} {on : Bool} → step c x .answer .number ≡ 0 → Made cs (next (step c x)) y on → Made (c ∷ cs) x y on
-  refused : {c : Call} {cs : List Call} {x : Lent} → (step c x .answer .number ≡ 0 → ⊥) → Made (c ∷ cs) x (next (step c x)) false
+-- HOW A PASS STANDS after a call that gave this number: one that is accepted lets it go on, if its line of the trace is written and not too much is lost
+pub data After (number : ℕ) : Outcome → Type 0 where
+  goes-on-after : number ≡ 0 → After number Outcome.Going
+  unwritten : number ≡ 0 → After number Outcome.Unwritten
+  too-much-lost : {lost : Float} → number ≡ 0 → After number (Outcome.TooMuchLost lost)
+  refused : {p q : ℕ} → (number ≡ 0 → ⊥) → After number (Outcome.Refused number p q)
 
--- the next line, or none: the circuit's end, or nothing more can be read
-pub data Next : Lent → Lent → Bool → Type 0 where
-  line : {x y : Lent} {on : Bool} (text : List ℕ) → Made (lineCalls text) x y on → Next x y on
-  no-line : {x : Lent} → Next x x false
+-- CALLS, made in order on x, which left y, and how the pass stands then: all are made, or the last one that was made has ended it
+pub data Made : List Call → Lent → Lent → Outcome → Type 0 where
+  all-made : {x : Lent} → Made [] x x Outcome.Going
+  goes-on : {c : Call} {cs : List Call} {x y : Lent} {o : Outcome} → After (step c x .answer .number) Outcome.Going → Made cs (next (step c x)) y o → Made (c ∷ cs) x y o
+  ends : {c : Call} {cs : List Call} {x : Lent} {o : Outcome} → After (step c x .answer .number) o → (o ≡ Outcome.Going → ⊥) → Made (c ∷ cs) x (next (step c x)) o
 
--- ALL LINES that were read, each run on what the one before it left
-pub data Passed (x : Lent) : Lent → Bool → Type 0 where
-  begun : Passed x x true
-  then : {y z : Lent} {on : Bool} → Passed x y true → Next y z on → Passed x z on
+-- how a pass stands after a line that makes no call
+pub data Stands : Item → Outcome → Type 0 where
+  nothing : Stands Nothing Outcome.Going
+  opened : {times : ℕ} → Stands (Repeat times) Outcome.Going
+  too-deep : {times : ℕ} → Stands (Repeat times) Outcome.TooDeep
+  closed : Stands Close Outcome.Going
+  no-repeat : Stands Close Outcome.NoRepeat
+  bad : {fault : Fault} → Stands (Bad fault) (Outcome.Bad fault)
+
+-- A LINE that asks for an item, and the calls that it stands for
+pub data Ran : Item → List Call → Lent → Lent → Outcome → Type 0 where
+  instruction : {act : Act} {cs : List Call} {x y : Lent} {o : Outcome} → Made cs x y o → Ran (call act) cs x y o
+  other : {i : Item} {x : Lent} {o : Outcome} → Stands i o → Ran i [] x x o
+
+-- .. by its text
+abbrev pub LineRan : List ℕ → Lent → Lent → Outcome → Type 0
+LineRan text = Ran (lineOf text .item) (lineCalls text)
+
+-- how a pass ends where no line was found: only the circuit's end is one
+pub data Unread : Found → Outcome → Type 0 where
+  done : Unread Found.End Outcome.Done
+  too-long : Unread Found.TooLong Outcome.TooLong
+  failed : Unread Found.Failed Outcome.Failed
+  cut : Unread Found.Cut Outcome.Cut
+
+-- A TURN: the line that was found is run, or the pass ends
+pub data Turn : Found → (text : List ℕ) → Lent → Lent → Outcome → Type 0 where
+  line : {text : List ℕ} {x y : Lent} {o : Outcome} → LineRan text x y o → Turn Found.Line text x y o
+  no-line : {found : Found} {text : List ℕ} {x : Lent} {o : Outcome} → Unread found o → Turn found text x x o
+
+-- .. whatever is found
+pub record Next (x y : Lent) (o : Outcome) : Type 0 where
+  pub found : Found
+  pub text : List ℕ
+  pub turn : Turn found text x y o
+
+-- ALL LINES that were read, each run on what the one before it left, while the pass goes on
+pub data Passed (x : Lent) : Lent → Outcome → Type 0 where
+  begun : Passed x x Outcome.Going
+  then : {y z : Lent} {o : Outcome} {found : Found} {text : List ℕ} → Passed x y Outcome.Going → Turn found text y z o → Passed x z o
+
+-- ---- WHAT IS SAID WITH THAT of a pass that is over, by the lines that were read (proofs/Whole.antt)
+
+unfoldable pub circuitCalls : List (List ℕ) → List Call
+circuitCalls [] = []
+circuitCalls (text ∷ lines) = lineCalls text ++ circuitCalls lines
+
+-- calls of which each is accepted
+pub data Accepted : List Call → Lent → Type 0 where
+  none : {x : Lent} → Accepted [] x
+  one : {c : Call} {cs : List Call} {x : Lent} → step c x .answer .number ≡ 0 → Accepted cs (next (step c x)) → Accepted (c ∷ cs) x
+
+-- a pass that has come to the circuit's end: all calls of all lines were made and accepted
+pub record Whole (x y : Lent) : Type 0 where
+  pub lines : List (List ℕ)
+  pub is : y ≡ afterCalls (circuitCalls lines) x
+  pub accepted : Accepted (circuitCalls lines) x
+
+-- the outcomes that leave calls unmade though none was refused: then no result is printed
+unfoldable pub leavesOff : Outcome → Bool
+leavesOff Outcome.Unwritten = true
+leavesOff (Outcome.TooMuchLost lost) = true
+leavesOff Outcome.Going = false
+leavesOff Outcome.Done = false
+leavesOff (Outcome.Bad fault) = false
+leavesOff Outcome.Rates = false
+leavesOff Outcome.TooLong = false
+leavesOff Outcome.Failed = false
+leavesOff Outcome.Cut = false
+leavesOff Outcome.TooDeep = false
+leavesOff Outcome.NoRepeat = false
+leavesOff (Outcome.Unclosed at) = false
+leavesOff (Outcome.Refused number p q) = false
+
+-- however a pass ends: the calls of the lines up to the first that is refused
+pub record UpToRefusal (x y : Lent) (o : Outcome) : Type 0 where
+  pub lines : List (List ℕ)
+  pub reached : List Call
+  pub left : List Call
+  pub all : circuitCalls lines ≡ reached ++ left
+  pub is : y ≡ afterCalls (madeOf true reached x) x
+  pub none-left : leavesOff o ≡ false → left ≡ []

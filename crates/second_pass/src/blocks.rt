@@ -2,8 +2,30 @@
 // the body is still to be run after this time, how often in all, and how many calls had been made when this time began.
 use passes::Outcome;
 use passes::Pass;
+ghost use Prim.Native.Nat.{_+_, _≤_, _<_};
+ghost use Rattle.circuit.specs.declared.lines.Item.the-variants.{Repeat, Close};
+ghost use Rattle.second_pass.specs.Lines.{Stands};
 
 pub const STACK_WORDS: usize = 320;
+
+// What is kept of a block that begins within `depth` others.
+fn push(
+    stack: &mut [u64; STACK_WORDS],
+    depth: usize,
+    offset: u64,
+    line: u64,
+    times: u64,
+    calls: u64,
+)
+    requires { ⌜ (depth < 64) × (0 < times) ⌝ }
+{
+    let top = 5 * depth;
+    stack[top] = offset;
+    stack[top + 1] = line;
+    stack[top + 2] = times - 1;
+    stack[top + 3] = times;
+    stack[top + 4] = calls;
+}
 
 // A block begins.
 pub fn opened(
@@ -13,42 +35,51 @@ pub fn opened(
     calls: u64,
     from: usize,
     to: usize,
-) -> Pass {
+) -> Pass
+    ensures { λ r. ⌜ Stands (Repeat times) (r .outcome) ⌝ }
+{
     let depth = pass.depth;
     let window = pass.window;
     if depth < 64 {
         if 0 < times {
-            let top = 5 * depth;
-            stack[top] = window.next;
-            stack[top + 1] = pass.line;
-            stack[top + 2] = times - 1;
-            stack[top + 3] = times;
-            stack[top + 4] = calls;
+            push(stack, depth, window.next, pass.line, times, calls);
             return passes::at_depth(pass, depth + 1);
         }
     }
     passes::ended(pass, Outcome::TooDeep, from, to)
 }
 
-// .. ends: its body is run once more, if that is still to be done and the body makes a call.
+// Whether the body of the block whose words begin at `top` is run once more: if that is still to be done and the body makes a call.
+fn repeats(stack: &mut [u64; STACK_WORDS], top: usize, calls: u64) -> bool
+    requires { ⌜ top + 5 ≤ 320 ⌝ }
+{
+    let left = stack[top + 2];
+    if left == 0 || calls == stack[top + 4] {
+        return false;
+    }
+    stack[top + 2] = left - 1;
+    stack[top + 4] = calls;
+    true
+}
+
+// .. ends, or is gone through again.
 pub fn closed(
     stack: &mut [u64; STACK_WORDS],
     pass: Pass,
     calls: u64,
     from: usize,
     to: usize,
-) -> Pass {
+) -> Pass
+    ensures { λ r. ⌜ Stands Close (r .outcome) ⌝ }
+{
     let depth = pass.depth;
     if 0 < depth {
         if depth <= 64 {
             let top = 5 * (depth - 1);
-            let left = stack[top + 2];
-            if left == 0 || calls == stack[top + 4] {
-                return passes::at_depth(pass, depth - 1);
+            if repeats(stack, top, calls) {
+                return passes::jumped(pass, stack[top], stack[top + 1]);
             }
-            stack[top + 2] = left - 1;
-            stack[top + 4] = calls;
-            return passes::jumped(pass, stack[top], stack[top + 1]);
+            return passes::at_depth(pass, depth - 1);
         }
     }
     passes::ended(pass, Outcome::NoRepeat, from, to)

@@ -14,15 +14,13 @@ use model::Header;
 use passes::Outcome;
 use passes::Pass;
 ghost use mathlib.Core.Path.{_≡_};
-ghost use mathlib.Core.Bool.{true};
-ghost use Prim.Native.Nat.{_≤_};
-ghost use lib.ListN.{length};
+ghost use Prim.Native.Nat.{_-_, _≤_};
+ghost use lib.ListN.{length, take, drop};
 ghost use Rattle.model.specs.Calls.{held, step};
 ghost use Rattle.model.specs.Known.{Known, knownAfter};
 ghost use Rattle.model.specs.Demand3.{next};
-ghost use Rattle.passes.specs.Going.{isGoing};
 ghost use Rattle.calls.specs.Instructions.{callOn};
-ghost use Rattle.second_pass.specs.Lines.{callsOf, lineCalls, Made, Next, Passed};
+ghost use Rattle.second_pass.specs.Lines.{callsOf, After, Made, LineRan, Turn, Next, Passed};
 
 // What the calls so far came to.
 pub struct Totals {
@@ -110,7 +108,7 @@ fn weight_at_stake(r: Run, store: &[u64], act: Act) -> f64
 
 // The run with its sum as a call left it.
 fn with_answer(r: Run, a: Answer) -> Run
-    ensures { λ b. ⌜ (b .header ≡ a .header) × (b .known ≡ knownAfter (r .known) (a .number)) ⌝ }
+    ensures { λ b. ⌜ (b .pass ≡ r .pass) × (b .header ≡ a .header) × (b .known ≡ knownAfter (r .known) (a .number)) ⌝ }
 {
     let pass = r.pass;
     let header = a.header;
@@ -123,9 +121,10 @@ fn with_answer(r: Run, a: Answer) -> Run
     }
 }
 
-// .. and with what that call came to. It may have lost too much.
+// .. and with what that call, which was accepted, came to. It may have lost too much.
 fn with_totals(r: Run, l: Line, a: Answer, lost: f64, most: f64) -> Run
-    ensures { λ b. ⌜ (b .header ≡ r .header) × (b .known ≡ r .known) ⌝ }
+    requires { ⌜ r .pass .outcome ≡ Outcome.Going ⌝ }
+    ensures { λ b. ⌜ After 0 (b .pass .outcome) × (b .header ≡ r .header) × (b .known ≡ r .known) ⌝ }
 {
     let pass = r.pass;
     let header = r.header;
@@ -143,9 +142,9 @@ fn with_totals(r: Run, l: Line, a: Answer, lost: f64, most: f64) -> Run
 
 // One call, on a qubit or a pair.
 fn call(line: &[u8], l: Line, o: Operation, store: &mut [u64], r: Run, wanted: Wanted) -> Run
-    requires { ⌜ Known (r .known) (held (r .header) (now store)) ⌝ }
+    requires { ⌜ (r .pass .outcome ≡ Outcome.Going) × Known (r .known) (held (r .header) (now store)) ⌝ }
     ensures is { λ a. ⌜ held (a .header) (now (store .exit)) ≡ next (step (callOn o) (held (r .header) (now (store .entry)))) ⌝ }
-    ensures goes { λ a. ⌜ (isGoing (a .pass) ≡ true → step (callOn o) (held (r .header) (now (store .entry))) .answer .number ≡ 0) ⌝ }
+    ensures stands { λ a. ⌜ After (step (callOn o) (held (r .header) (now (store .entry))) .answer .number) (a .pass .outcome) ⌝ }
     ensures known { λ a. ⌜ Known (a .known) (held (a .header) (now (store .exit))) ⌝ }
 {
     let before = r.totals;
@@ -172,8 +171,8 @@ fn call(line: &[u8], l: Line, o: Operation, store: &mut [u64], r: Run, wanted: W
 
 // The calls of a line, target by target.
 fn run_targets(line: &[u8], l: Line, act: Act, store: &mut [u64], r: Run, wanted: Wanted) -> Run
-    requires { ⌜ Known (r .known) (held (r .header) (now store)) ⌝ }
-    ensures is { λ a. ⌜ Made (callsOf act (l .rates) (now (line .entry)) (l .targets)) (held (r .header) (now (store .entry))) (held (a .header) (now (store .exit))) (isGoing (a .pass)) ⌝ }
+    requires { ⌜ (r .pass .outcome ≡ Outcome.Going) × Known (r .known) (held (r .header) (now store)) ⌝ }
+    ensures is { λ a. ⌜ Made (callsOf act (l .rates) (now (line .entry)) (l .targets)) (held (r .header) (now (store .entry))) (held (a .header) (now (store .exit))) (a .pass .outcome) ⌝ }
     ensures known { λ a. ⌜ Known (a .known) (held (a .header) (now (store .exit))) ⌝ }
 {
     let pairs = circuit::takes_pairs(act);
@@ -204,8 +203,8 @@ fn run_item(
     r: Run,
     wanted: Wanted,
 ) -> Run
-    requires { ⌜ Known (r .known) (held (r .header) (now store)) ⌝ }
-    ensures is { λ a. ⌜ Made (lineCalls (now (line .entry))) (held (r .header) (now (store .entry))) (held (a .header) (now (store .exit))) (isGoing (a .pass)) ⌝ }
+    requires { ⌜ (r .pass .outcome ≡ Outcome.Going) × Known (r .known) (held (r .header) (now store)) ⌝ }
+    ensures is { λ a. ⌜ LineRan (now (line .entry)) (held (r .header) (now (store .entry))) (held (a .header) (now (store .exit))) (a .pass .outcome) ⌝ }
     ensures known { λ a. ⌜ Known (a .known) (held (a .header) (now (store .exit))) ⌝ }
 {
     let l = circuit::parse(line);
@@ -231,8 +230,8 @@ fn run_found(
     r: Run,
     wanted: Wanted,
 ) -> Run
-    requires { ⌜ (r .pass .window .from ≤ r .pass .window .to) × (r .pass .window .to ≤ length (now bytes)) × Known (r .known) (held (r .header) (now store)) ⌝ }
-    ensures is { λ a. ⌜ Next (held (r .header) (now (store .entry))) (held (a .header) (now (store .exit))) (isGoing (a .pass)) ⌝ }
+    requires { ⌜ (r .pass .window .from ≤ r .pass .window .to) × (r .pass .window .to ≤ length (now bytes)) × (r .pass .outcome ≡ Outcome.Going) × Known (r .known) (held (r .header) (now store)) ⌝ }
+    ensures is { λ a. ⌜ Turn (r .pass .window .found) (take (r .pass .window .to - r .pass .window .from) (drop (r .pass .window .from) (now (bytes .entry)))) (held (r .header) (now (store .entry))) (held (a .header) (now (store .exit))) (a .pass .outcome) ⌝ }
     ensures known { λ a. ⌜ Known (a .known) (held (a .header) (now (store .exit))) ⌝ }
 {
     let pass = r.pass;
@@ -259,7 +258,7 @@ fn run_line(
     wanted: Wanted,
 ) -> Run
     requires { ⌜ Known (r .known) (held (r .header) (now store)) ⌝ }
-    ensures is { λ a. ⌜ Next (held (r .header) (now (store .entry))) (held (a .header) (now (store .exit))) (isGoing (a .pass)) ⌝ }
+    ensures is { λ a. ⌜ Next (held (r .header) (now (store .entry))) (held (a .header) (now (store .exit))) (a .pass .outcome) ⌝ }
     ensures known { λ a. ⌜ Known (a .known) (held (a .header) (now (store .exit))) ⌝ }
 {
     let before = r.pass;
@@ -270,7 +269,7 @@ fn run_line(
 
 // A sum that is empty from the start has lost everything.
 fn start(header: Header, known: bool) -> Run
-    ensures { λ r. ⌜ (isGoing (r .pass) ≡ true) × (r .header ≡ header) × (r .known ≡ known) ⌝ }
+    ensures { λ r. ⌜ (r .pass .outcome ≡ Outcome.Going) × (r .header ≡ header) × (r .known ≡ known) ⌝ }
 {
     Run {
         pass: passes::start(),
@@ -299,7 +298,7 @@ pub fn run_all(
     wanted: Wanted,
 ) -> Run
     requires { ⌜ Known known (held header (now store)) ⌝ }
-    ensures { λ r. ⌜ Passed (held header (now (store .entry))) (held (r .header) (now (store .exit))) (isGoing (r .pass)) ⌝ }
+    ensures { λ r. ⌜ Passed (held header (now (store .entry))) (held (r .header) (now (store .exit))) (r .pass .outcome) ⌝ }
 {
     let mut r = start(header, known);
     let mut turns = u64::MAX;

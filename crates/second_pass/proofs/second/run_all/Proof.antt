@@ -1,7 +1,6 @@
 -- `second_pass::second::run_all` meets its contract: the lines so far are run, and the next one is run on what they left. The turns are counted.
 -- Assumes nothing.
 use mathlib.Core.Path.{_≡_, refl, sym, subst, _∙_}
-use mathlib.Core.Bool.{true}
 use denote.Ref.{now}
 use lib.ListN.{length}
 use borrow.Author.Tests.{not-false}
@@ -9,9 +8,9 @@ use borrow.Author.Needs.{needs}
 use Rattle.model.specs.Calls.{held}
 use Rattle.model.specs.Known.{Known}
 use Rattle.model.specs.declared.Header.{Header}
-use Rattle.passes.specs.Going.{isGoing}
+use Rattle.passes.specs.declared.Outcome.the-variants as Outcome
 use Rattle.second_pass.specs.Lines.{Passed}
-use Rattle.second_pass.proofs.Lines.{known-as, passed-none, passed-next}
+use Rattle.second_pass.proofs.Lines.{known-as, going, passed-none, passed-next}
 use Rattle.second_pass.proofs.second.run_all.Statement.{statement}
 use Rattle.second_pass.proofs.second.run_all.Tie as tie
 
@@ -20,8 +19,8 @@ Inv-loop s bytes₀ stack₀ store₀ known wanted r₀ turns₀ bytes stack sto
     (length bytes ≡ length bytes₀)
     × (length store ≡ length store₀)
     × Known (r .known) (held (r .header) store)
-    × Passed (held (r₀ .header) store₀) (held (r .header) store) (isGoing (r .pass))
-    × (isGoing (r .pass) ≡ true)
+    × Passed (held (r₀ .header) store₀) (held (r .header) store) (r .pass .outcome)
+    × (r .pass .outcome ≡ Outcome.Going)
 
 abbrev μ-loop : tie.MeasureT-loop
 μ-loop s bytes₀ stack₀ store₀ known wanted r₀ turns₀ bytes stack store r turns = turns
@@ -36,7 +35,7 @@ loop-holds c =
       refl,
       refl,
       known-as (a .args .known) (s .result .known) (a .args .header) (s .result .header) (now (a .args .store)) (s .ensures .2) (s .ensures .1) (a .pre),
-      passed-none (held (s .result .header) (now (a .args .store))) (isGoing (s .result .pass)) (s .ensures .0),
+      passed-none (held (s .result .header) (now (a .args .store))) (s .result .pass .outcome) (s .ensures .0),
       s .ensures .0,
     )
 
@@ -57,7 +56,7 @@ returns c =
     let k = c .before .before .before .before .before .before .run-line in
     let l = c .before .before .before .before .before .before .before .before .before .before .before in
     let s = l .before .start in
-    subst (λ (h : Header). Passed (held h (now (l .before .before .before .before .args .store))) (held (k .result .header) (k .last .1 .1 .1 .0)) (isGoing (k .result .pass))) (s .ensures .1)
+    subst (λ (h : Header). Passed (held h (now (l .before .before .before .before .args .store))) (held (k .result .header) (k .last .1 .1 .1 .0)) (k .result .pass .outcome)) (s .ensures .1)
     (passed-next (l .loop .inv .4) (l .loop .inv .3) (k .ensures .0))
 
 sub-turns : tie.Need-sub-turns Inv-loop μ-loop
@@ -70,7 +69,7 @@ loop-again : tie.Need-loop-again Inv-loop μ-loop
 loop-again c =
     let k = c .before .before .before .before .before .before .run-line in
     let l = c .before .before .before .before .before .before .before .before .before .before .before in
-    let on = sym (c .before .is-going .ensures) ∙ not-false _ (c .if1 .left) in
+    let on = going (k .result .pass .outcome) (sym (c .before .is-going .ensures) ∙ not-false _ (c .if1 .left)) in
     (search needs, search needs, k .ensures .1, passed-next (l .loop .inv .4) (l .loop .inv .3) (k .ensures .0), on)
 
 same-length-3 : tie.Need-same-length-3 Inv-loop μ-loop
@@ -82,7 +81,7 @@ same-length-4 c = search needs
 returns-2 : tie.Need-returns-2 Inv-loop μ-loop
 returns-2 c =
     let l = c .before in
-    subst (λ (h : Header). Passed (held h (now (l .before .before .before .before .args .store))) (held (l .loop .r .header) (l .loop .store)) (isGoing (l .loop .r .pass))) (l .before .start .ensures .1) (l .loop .inv .3)
+    subst (λ (h : Header). Passed (held h (now (l .before .before .before .before .args .store))) (held (l .loop .r .header) (l .loop .store)) (l .loop .r .pass .outcome)) (l .before .start .ensures .1) (l .loop .inv .3)
 
 pub run-all-spec : {M : Type 1} → statement M
 run-all-spec =

@@ -1,11 +1,13 @@
 -- `second_pass::second::run_found` meets its contract: a line that was found is run, and without one the pass ends. Assumes nothing.
-use mathlib.Core.Path.{_≡_, refl}
+use mathlib.Core.Path.{_≡_, sym, subst}
+use Rattle.input.specs.declared.Found.{Found}
 use denote.Ref.{now}
+use Prim.Native.Nat.{_-_}
+use lib.ListN.{take, drop}
 use borrow.Author.Needs.{needs}
 use Rattle.model.specs.Calls.{held}
-use Rattle.passes.specs.Going.{goes}
-use Rattle.second_pass.specs.Lines.{line}
-use Rattle.second_pass.proofs.Lines.{stands, same-sum, same-known, nothing-read}
+use Rattle.second_pass.specs.Lines.{Turn, line, done, too-long, failed, cut}
+use Rattle.second_pass.proofs.Lines.{same-sum, same-known, nothing-read}
 use Rattle.second_pass.proofs.second.run_found.Statement.{statement}
 use Rattle.second_pass.proofs.second.run_found.Tie as tie
 
@@ -52,50 +54,53 @@ same-length : tie.Need-same-length
 same-length c = search needs
 
 returns : tie.Need-returns
-returns c = let r = c .before .before .run-item in (line _ (r .ensures .0), r .ensures .1)
+returns c =
+    let r = c .before .before .run-item in
+    let a = c .before .before .before .before .before .before .before .before .before .before .before .before in
+    let x = held (a .args .r .header) (now (a .args .store)) in
+    let y = held (r .result .header) (r .last .1 .1 .0) in
+    let w = a .args .r .pass .window in
+    let text = take (w .to - w .from) (drop (w .from) (now (a .args .bytes))) in
+    (subst (λ (f : Found). Turn f text x y (r .result .pass .outcome)) (sym (c .before .before .before .before .before .before .enum-told .given .1)) (line (r .ensures .0)), r .ensures .1)
 
 returns-2 : tie.Need-returns-2
-unfolding goes
 returns-2 c =
     let a = c .before .before .before .before .before .before .before in
     let w = now (a .args .store) in
     let r = c .ended .result in
     let e = c .ended .ensures in (
-      nothing-read (held (a .args .r .header) w) (held (r .header) w) (r .pass) (same-sum (a .args .r) r w (e .1) (e .2)) (λ g. stands (r .pass) (e .0) refl g),
-      same-known (a .args .r) r w (e .1) (e .2) (a .pre .2),
+      nothing-read (held (a .args .r .header) w) (held (r .header) w) (same-sum (a .args .r) r w (e .1) (e .2)) (c .before .enum-told2 .given .1) (e .0) done,
+      same-known (a .args .r) r w (e .1) (e .2) (a .pre .3),
     )
 
 returns-3 : tie.Need-returns-3
-unfolding goes
 returns-3 c =
     let a = c .before .before .before .before .before .before .before in
     let w = now (a .args .store) in
     let r = c .ended2 .result in
     let e = c .ended2 .ensures in (
-      nothing-read (held (a .args .r .header) w) (held (r .header) w) (r .pass) (same-sum (a .args .r) r w (e .1) (e .2)) (λ g. stands (r .pass) (e .0) refl g),
-      same-known (a .args .r) r w (e .1) (e .2) (a .pre .2),
+      nothing-read (held (a .args .r .header) w) (held (r .header) w) (same-sum (a .args .r) r w (e .1) (e .2)) (c .before .enum-told3 .given .1) (e .0) too-long,
+      same-known (a .args .r) r w (e .1) (e .2) (a .pre .3),
     )
 
 returns-4 : tie.Need-returns-4
-unfolding goes
 returns-4 c =
     let a = c .before .before .before .before .before .before .before in
     let w = now (a .args .store) in
     let r = c .ended3 .result in
     let e = c .ended3 .ensures in (
-      nothing-read (held (a .args .r .header) w) (held (r .header) w) (r .pass) (same-sum (a .args .r) r w (e .1) (e .2)) (λ g. stands (r .pass) (e .0) refl g),
-      same-known (a .args .r) r w (e .1) (e .2) (a .pre .2),
+      nothing-read (held (a .args .r .header) w) (held (r .header) w) (same-sum (a .args .r) r w (e .1) (e .2)) (c .before .enum-told4 .given .1) (e .0) failed,
+      same-known (a .args .r) r w (e .1) (e .2) (a .pre .3),
     )
 
 returns-5 : tie.Need-returns-5
-unfolding goes
 returns-5 c =
     let a = c .before .before .before .before .before .before .before in
     let w = now (a .args .store) in
     let r = c .ended4 .result in
     let e = c .ended4 .ensures in (
-      nothing-read (held (a .args .r .header) w) (held (r .header) w) (r .pass) (same-sum (a .args .r) r w (e .1) (e .2)) (λ g. stands (r .pass) (e .0) refl g),
-      same-known (a .args .r) r w (e .1) (e .2) (a .pre .2),
+      nothing-read (held (a .args .r .header) w) (held (r .header) w) (same-sum (a .args .r) r w (e .1) (e .2)) (c .before .enum-told5 .given .1) (e .0) cut,
+      same-known (a .args .r) r w (e .1) (e .2) (a .pre .3),
     )
 
 pub run-found-spec : {M : Type 1} → statement M

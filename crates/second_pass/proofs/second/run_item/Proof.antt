@@ -1,12 +1,11 @@
 -- `second_pass::second::run_item` meets its contract: a call's targets are run, and any other line leaves the sum as it is. Assumes nothing.
-use mathlib.Core.Path.{_≡_, refl, sym, subst}
-use mathlib.Core.List.{List}
+use mathlib.Core.Path.{_≡_, refl, sym, subst, ap, _∙_}
 use denote.Ref.{now}
 use borrow.Author.Needs.{needs}
-use Rattle.model.specs.Calls.{Call, held}
-use Rattle.passes.specs.Going.{isGoing}
-use Rattle.second_pass.specs.Lines.{callsFor, Made}
-use Rattle.second_pass.proofs.Lines.{same-sum, same-known, line-calls, calls-nothing}
+use Rattle.model.specs.Calls.{held}
+use Rattle.passes.specs.declared.Pass.{Pass}
+use Rattle.second_pass.specs.Lines.{callsOf, callsFor, instruction, Stands, nothing, bad}
+use Rattle.second_pass.proofs.Lines.{same-sum, same-known, line-ran, calls-nothing}
 use Rattle.second_pass.proofs.second.run_item.Statement.{statement}
 use Rattle.second_pass.proofs.second.run_item.Tie as tie
 
@@ -51,7 +50,7 @@ unfolding callsFor
 returns c =
     let l = c .before .before .before .parse in
     let a = c .before .before .before .before .before .before in
-    (calls-nothing (now (a .args .line)) (l .result) (l .ensures .1) (c .enum-told .given .1) refl (isGoing (a .args .r .pass)) refl, a .pre)
+    (calls-nothing (now (a .args .line)) (l .result) (l .ensures .1) (c .enum-told .given .1) refl refl (subst (Stands _) (sym (a .pre .0)) nothing), a .pre .1)
 
 returns-2 : tie.Need-returns-2
 unfolding callsFor
@@ -60,8 +59,8 @@ returns-2 c =
     let a = c .before .before .before .before .before .before .before .before in
     let r = c .ended .result in
     let e = c .ended .ensures in (
-      calls-nothing (now (a .args .line)) (l .result) (l .ensures .1) (c .before .before .item .given .1) refl (isGoing (r .pass)) (same-sum (a .args .r) r (now (a .args .store)) (e .1) (e .2)),
-      same-known (a .args .r) r (now (a .args .store)) (e .1) (e .2) (a .pre),
+      calls-nothing (now (a .args .line)) (l .result) (l .ensures .1) (c .before .before .item .given .1) refl (same-sum (a .args .r) r (now (a .args .store)) (e .1) (e .2)) (subst (Stands _) (sym (e .0)) bad),
+      same-known (a .args .r) r (now (a .args .store)) (e .1) (e .2) (a .pre .1),
     )
 
 same-length : tie.Need-same-length
@@ -74,11 +73,7 @@ returns-3 c =
     let s = c .before .before .before .before .before .item2 .given in
     let t = c .before .before .run-targets in
     let a = c .before .before .before .before .before .before .before .before .before .before .before .args in
-    let x = held (a .r .header) (now (a .store)) in
-    let y = held (t .result .header) (t .last .1 .1 .1 .0) in (
-      subst (λ (cs : List Call). Made cs x y (isGoing (t .result .pass))) (sym (line-calls (now (a .line)) (l .result) (l .ensures .1) (s .1))) (t .ensures .0),
-      t .ensures .1,
-    )
+    (line-ran (now (a .line)) (l .result) (l .ensures .1) (s .1) (instruction {cs = callsOf (s .0 .0) (l .result .rates) (now (a .line)) (l .result .targets)} (t .ensures .0)), t .ensures .1)
 
 returns-4 : tie.Need-returns-4
 unfolding callsFor
@@ -87,8 +82,9 @@ returns-4 c =
     let a = c .before .before .before .before .before .before .before .before .before .before in
     let r = c .with-pass .result in
     let e = c .with-pass .ensures in (
-      calls-nothing (now (a .args .line)) (l .result) (l .ensures .1) (c .before .before .before .before .item3 .given .1) refl (isGoing (r .pass)) (same-sum (a .args .r) r (now (a .args .store)) (e .1) (e .2)),
-      same-known (a .args .r) r (now (a .args .store)) (e .1) (e .2) (a .pre),
+      calls-nothing (now (a .args .line)) (l .result) (l .ensures .1) (c .before .before .before .before .item3 .given .1) refl (same-sum (a .args .r) r (now (a .args .store)) (e .1) (e .2))
+          (subst (Stands _) (sym (ap (λ (p : Pass). p .outcome) (e .0))) (c .before .opened .ensures)),
+      same-known (a .args .r) r (now (a .args .store)) (e .1) (e .2) (a .pre .1),
     )
 
 returns-5 : tie.Need-returns-5
@@ -98,8 +94,9 @@ returns-5 c =
     let a = c .before .before .before .before .before .before .before .before .before in
     let r = c .with-pass2 .result in
     let e = c .with-pass2 .ensures in (
-      calls-nothing (now (a .args .line)) (l .result) (l .ensures .1) (c .before .before .before .enum-told2 .given .1) refl (isGoing (r .pass)) (same-sum (a .args .r) r (now (a .args .store)) (e .1) (e .2)),
-      same-known (a .args .r) r (now (a .args .store)) (e .1) (e .2) (a .pre),
+      calls-nothing (now (a .args .line)) (l .result) (l .ensures .1) (c .before .before .before .enum-told2 .given .1) refl (same-sum (a .args .r) r (now (a .args .store)) (e .1) (e .2))
+          (subst (Stands _) (sym (ap (λ (p : Pass). p .outcome) (e .0))) (c .before .closed .ensures)),
+      same-known (a .args .r) r (now (a .args .store)) (e .1) (e .2) (a .pre .1),
     )
 
 pub run-item-spec : {M : Type 1} → statement M

@@ -6,7 +6,6 @@ use lib.ListN.{length}
 use borrow.Author.Needs.{needs}
 use Rattle.model.specs.Calls.{Lent, held}
 use Rattle.input.specs.declared.Window.{Window}
-use Rattle.passes.specs.Going.{isGoing}
 use Rattle.passes.specs.declared.Pass.{Pass}
 use Rattle.second_pass.specs.Lines.{Next}
 use Rattle.second_pass.proofs.Lines.{same-sum, same-known}
@@ -18,7 +17,7 @@ from c = c .before .before .before .before .before .before .before .before .befo
 
 -- the window that was read
 window : (c : tie.After-with-pass) → c .with-pass .result .pass .window ≡ c .before .before .before .before .next-line .result
-window c = ap (λ (p : Pass). p .window) (c .with-pass .ensures .0) ∙ c .before .moved .ensures
+window c = ap (λ (p : Pass). p .window) (c .with-pass .ensures .0) ∙ c .before .moved .ensures .0
 
 next-line-requires : tie.Need-next-line-requires
 next-line-requires c κs = search needs
@@ -37,6 +36,7 @@ run-found-requires c κs =
     let e = p .with-pass .ensures in (
       subst (λ (w : Window). w .from ≤ w .to) (sym (window p)) (n .0),
       subst (λ (w : Window). w .to ≤ length (p .before .before .before .before .next-line .last .1 .0)) (sym (window p)) (n .1),
+      ap (λ (q : Pass). q .outcome) (e .0) ∙ p .before .moved .ensures .1,
       same-known (a .args .r) (p .with-pass .result) (now (a .args .store)) (e .1) (e .2) (a .pre),
     )
 
@@ -52,8 +52,8 @@ returns c =
     let p = c .before .before .before .before .before .before in
     let a = from p in
     let e = p .with-pass .ensures in (
-      subst (λ (x : Lent). Next x (held (f .result .header) (f .last .1 .1 .0)) (isGoing (f .result .pass)))
-          (same-sum (a .args .r) (p .with-pass .result) (now (a .args .store)) (e .1) (e .2)) (f .ensures .0),
+      subst (λ (x : Lent). Next x (held (f .result .header) (f .last .1 .1 .0)) (f .result .pass .outcome))
+          (same-sum (a .args .r) (p .with-pass .result) (now (a .args .store)) (e .1) (e .2)) (record { found = _; text = _; turn = f .ensures .0 }),
       f .ensures .1,
     )
 

@@ -1,22 +1,22 @@
 -- `second_pass::second::run_targets` meets its contract: the calls from here on, made on what the sum is now, are the rest of those of the line.
 -- Each turn goes on in the line. Assumes nothing.
-use mathlib.Core.Path.{_≡_, refl, sym, ap, subst, _∙_}
+use mathlib.Core.Path.{_≡_, refl, sym, ap, _∙_}
 use mathlib.Core.Bool.{Bool}
-use mathlib.Core.List.{List}
 use Prim.Native.Nat.{_-_}
 use native.Mathlib.Omega.{arith}
 use lib.ListN.{length}
 use denote.Ref.{now}
 use borrow.Author.Tests.{not-true, not-false}
 use borrow.Author.Needs.{needs}
-use Rattle.model.specs.Calls.{Call, Lent, held}
+use Rattle.model.specs.Calls.{Lent, held}
 use Rattle.model.specs.Known.{Known}
 use Rattle.circuit.specs.Names.{takesPairs}
 use Rattle.circuit.specs.Targets.{targetAt}
 use Rattle.circuit.proofs.TargetLists.{no-target}
-use Rattle.passes.specs.Going.{isGoing}
+use Rattle.passes.specs.declared.Outcome.{Outcome}
+use Rattle.passes.specs.declared.Outcome.the-variants as Outcome
 use Rattle.second_pass.specs.Lines.{callsOf, Made}
-use Rattle.second_pass.proofs.Lines.{none-left, calls-end, turn-ends, turn-goes-on}
+use Rattle.second_pass.proofs.Lines.{not-going, going, none-left, turn-ends, turn-goes-on}
 use Rattle.second_pass.proofs.second.run_targets.Statement.{statement}
 use Rattle.second_pass.proofs.second.run_targets.Tie as tie
 
@@ -24,7 +24,8 @@ abbrev Inv-loop : tie.InvT-loop
 Inv-loop line l act store₀ wanted pairs rates run₀ at₀ store run at =
     (length store ≡ length store₀)
     × Known (run .known) (held (run .header) store)
-    × ((y : Lent) (on : Bool) → Made (callsOf act rates line at) (held (run .header) store) y on → Made (callsOf act rates line at₀) (held (run₀ .header) store₀) y on)
+    × (run .pass .outcome ≡ Outcome.Going)
+    × ((y : Lent) (o : Outcome) → Made (callsOf act rates line at) (held (run .header) store) y o → Made (callsOf act rates line at₀) (held (run₀ .header) store₀) y o)
 
 abbrev μ-loop : tie.MeasureT-loop
 μ-loop line l act store₀ wanted pairs rates run₀ at₀ store run at = length line - at
@@ -45,7 +46,7 @@ takes-pairs-requires : tie.Need-takes-pairs-requires Inv-loop μ-loop
 takes-pairs-requires c κs = search needs
 
 loop-holds : tie.Need-loop-holds Inv-loop μ-loop
-loop-holds c = (refl, c .before .before .before .before .pre, λ y on m. m)
+loop-holds c = let p = c .before .before .before .before .pre in (refl, p .1, p .0, λ y o m. m)
 
 target-requires : tie.Need-target-requires Inv-loop μ-loop
 target-requires c κs = search needs
@@ -62,12 +63,13 @@ returns c =
     let a = from l .args in
     let t = c .before .target .result in
     let y = held (l .loop .run .header) (l .loop .store) in
-    let on = isGoing (l .loop .run .pass) in
-    let none = calls-end (a .act) (a .l .rates) (now (a .line)) (l .loop .at) t (seen-at (c .before)) (no-target (t .seen) (c .match .keys2)) in
-    (l .loop .inv .2 y on (subst (λ (cs : List Call). Made cs y y on) (sym none) (none-left y on)), l .loop .inv .1)
+    let o = l .loop .run .pass .outcome in (
+      l .loop .inv .3 y o (none-left (a .act) (a .l .rates) (now (a .line)) (l .loop .at) t (seen-at (c .before)) (no-target (t .seen) (c .match .keys2)) y o (l .loop .inv .2)),
+      l .loop .inv .1,
+    )
 
 call-requires : tie.Need-call-requires Inv-loop μ-loop
-call-requires c κs = c .before .before .before .before .before .loop .inv .1
+call-requires c κs = let i = c .before .before .before .before .before .loop .inv in (i .2, i .1)
 
 is-going-requires : tie.Need-is-going-requires Inv-loop μ-loop
 is-going-requires c κs = search needs
@@ -83,10 +85,11 @@ returns-2 c =
     let l = t .before in
     let a = from l .args in
     let y = held (k .result .header) (k .last .1 .1 .1 .0) in
-    let on = isGoing (k .result .pass) in (
-      l .loop .inv .2 y on
+    let o = k .result .pass .outcome in (
+      l .loop .inv .3 y o
           (turn-ends (a .act) (a .l .rates) (now (a .line)) (l .loop .at) (t .target .result) (seen-at t) (s .0 .0) (s .0 .1 .0) (s .1)
-          (held (l .loop .run .header) (l .loop .store)) y (k .ensures .0) on (sym (c .before .is-going .ensures) ∙ not-true _ (c .if1 .taken))),
+          (held (l .loop .run .header) (l .loop .store)) y (k .ensures .0) o (k .ensures .1 .0)
+          (not-going o (sym (c .before .is-going .ensures) ∙ not-true _ (c .if1 .taken)))),
       k .ensures .1 .1,
     )
 
@@ -102,13 +105,16 @@ loop-again c =
     let s = c .before .before .before .before .before .before .before .seen .given in
     let t = c .before .before .before .before .before .before .before .before .before in
     let l = t .before in
-    let a = from l .args in (
+    let a = from l .args in
+    let o = k .result .pass .outcome in
+    let g = going o (sym (c .before .is-going .ensures) ∙ not-false _ (c .if1 .left)) in (
       search needs,
       k .ensures .1 .1,
-      λ z on m.
-          l .loop .inv .2 z on
+      g,
+      λ z u m.
+          l .loop .inv .3 z u
           (turn-goes-on (a .act) (a .l .rates) (now (a .line)) (l .loop .at) (t .target .result) (seen-at t) (s .0 .0) (s .0 .1 .0) (s .1)
-          (held (l .loop .run .header) (l .loop .store)) (held (k .result .header) (k .last .1 .1 .1 .0)) (k .ensures .0) (k .ensures .1 .0 (sym (c .before .is-going .ensures) ∙ not-false _ (c .if1 .left))) z on m),
+          (held (l .loop .run .header) (l .loop .store)) (held (k .result .header) (k .last .1 .1 .1 .0)) (k .ensures .0) o (k .ensures .1 .0) g z u m),
     )
 
 pub run-targets-spec : {M : Type 1} → statement M

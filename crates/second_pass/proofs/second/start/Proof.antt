@@ -1,7 +1,6 @@
 -- `second_pass::second::start` meets its contract. Assumes nothing.
-use mathlib.Core.Path.{refl, ap}
+use mathlib.Core.Path.{refl}
 use borrow.Author.Needs.{needs}
-use Rattle.passes.specs.Going.{goes}
 use Rattle.second_pass.proofs.second.start.Statement.{statement}
 use Rattle.second_pass.proofs.second.start.Tie as tie
 
@@ -12,8 +11,7 @@ lost-at-start-requires : tie.Need-lost-at-start-requires
 lost-at-start-requires c κs = search needs
 
 returns : tie.Need-returns
-unfolding goes
-returns c = (ap goes (c .before .start .ensures), refl, refl)
+returns c = (c .before .start .ensures, refl, refl)
 
 pub start-spec : {M : Type 1} → statement M
 start-spec = tie.close (tie.spec start-requires lost-at-start-requires returns)
