@@ -77,10 +77,14 @@ pub fn header_sound(h: Header) -> bool
     bounds_sound(h.threshold, h.cutoff)
 }
 
-// Number 1 or 2, or 0 if neither applies.
-fn shape_number(h: Header, store: &[u64]) -> u64
+// Number 1 or 2, or 0 if neither applies: so it is where that is known.
+fn shape_number(h: Header, store: &[u64], known: bool) -> u64
+    requires { ⌜ Known known (held h (now store)) ⌝ }
     ensures { λ r. ⌜ r ≡ Numbers.firstOf (shape (held h (now (store .entry)))) ⌝ }
 {
+    if known {
+        return 0;
+    }
     let size = h.size;
     if size_sound(size, store.len()) {
         if header_sound(h) {
@@ -312,7 +316,7 @@ pub fn front(h: Header, store: &[u64], own: u64, known: bool) -> u64
     requires { ⌜ Known known (held h (now store)) ⌝ }
     ensures { λ r. ⌜ r ≡ Calls.front own (held h (now (store .entry))) ⌝ }
 {
-    let number = shape_number(h, store);
+    let number = shape_number(h, store, known);
     if number != 0 {
         return number;
     }
