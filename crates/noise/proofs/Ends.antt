@@ -8,7 +8,7 @@ use lib.Dec.{ltb}
 use lib.Ieee.{Float}
 use lib.ListN.{length}
 use borrow.Author.Tests.{lt-ltb, le-ltb}
-use Rattle.model.specs.Entries.{Keyed, listed}
+use Rattle.model.specs.Entries.{listed}
 use Rattle.model.specs.Store.{keyedWeighed}
 use Rattle.model.specs.Sum.{done, refused, andThen, normalised, truncated, finished}
 use Rattle.model.specs.declared.Size.{Size}
@@ -16,8 +16,7 @@ use Rattle.model.proofs.Entries.{length-listed}
 use Rattle.model.specs.Sound.{Packed}
 use Rattle.weights.specs.Outcomes.{Normalised, Truncated}
 use Rattle.weights.specs.declared.Cut.{Cut}
-use Rattle.rebuild.specs.Saved.{withWeights, withKeyWords}
-use Rattle.noise.specs.Finish.{Renormalised, Finished, ending, putBack}
+use Rattle.noise.specs.Finish.{Renormalised, Finished, ending}
 use Rattle.merging.specs.declared.Progress.{Progress}
 
 module _ (s : Size) (p : Progress) (w : List ℕ) where
@@ -79,15 +78,3 @@ module _ (s : Size) (p : Progress) (w : List ℕ) where
             result = λ z. with-room n;
             unchanged = λ z. (n .unchanged refl, refl);
           }
-
--- ---- what `undo` puts back
-
-module _ (s : Size) (count : ℕ) (saved words phases : List ℕ) (es : List Keyed) (dirty : Bool) {ws : List Keyed} {w : List ℕ} (e : ws ≡ withWeights saved es) (g : Packed s count w) where
-  abbrev Back : Type 0
-  Back = Packed s count w × (listed s count w ≡ putBack dirty saved words phases es)
-
-  pub put-back : dirty ≡ true → listed s count w ≡ withKeyWords words phases ws → Back
-  put-back d k = (g, k ∙ ap (withKeyWords words phases) e ∙ ap (λ (b : Bool). putBack b saved words phases es) (sym d))
-
-  pub weights-only : dirty ≡ false → listed s count w ≡ ws → Back
-  weights-only d l = (g, l ∙ e ∙ ap (λ (b : Bool). putBack b saved words phases es) (sym d))

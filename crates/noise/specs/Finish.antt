@@ -2,17 +2,16 @@
 use Prim.Native.Nat.{ℕ, zero, suc}
 use mathlib.Core.Path.{_≡_}
 use mathlib.Core.Bool.{Bool, true, false, cond}
-use mathlib.Core.List.{List, map}
+use mathlib.Core.List.{List}
 use lib.Dec.{ltb}
 use lib.Ieee.{Float}
-use lib.ListN.{length, take}
 use Rattle.model.specs.Entries.{Keyed, listed}
 use Rattle.model.specs.Store.{keyedWeighed}
-use Rattle.model.specs.Calls.{rebuiltEntries}
+use Rattle.model.specs.Channels.{Noise}
+use Rattle.model.specs.Calls.{noise, Lent, Left, sumOf, engine, act, left}
 use Rattle.model.specs.Sum.{Result, done, refused, normalised, Cut, cutTo, finished}
 use Rattle.model.specs.declared.Size.{Size}
 use Rattle.model.specs.Sound.{Packed}
-use Rattle.rebuild.specs.Saved.{withWeights, withKeyWords}
 use Rattle.noise.specs.declared.Ending.{Ending}
 use Rattle.merging.specs.declared.Progress.{Progress}
 
@@ -34,19 +33,8 @@ pub record Finished (s : Size) (cutoff : Float) (p : Progress) (w : List ℕ) (r
   pub result : p .full ≡ false → finished keyedWeighed (s .capacity) cutoff (p .dropped) (listed s (p .count) w) ≡ ending (r .number) (r .taken) (listed s (r .count) w')
   pub unchanged : (r .number ≡ 0 → ⊥) → (w' ≡ w) × (r .count ≡ p .count)
 
--- the first entries as they were: weights and, if they were rebuilt, keys
-abbrev pub putBack : Bool → (saved words phases : List ℕ) → List Keyed → List Keyed
-putBack dirty saved words phases es = cond dirty (withKeyWords words phases (withWeights saved es)) (withWeights saved es)
-
 -- ---- a channel
 
--- the entries that a channel works on: a dirty sum's keys are rebuilt
-abbrev pub readied : Size → Bool → List Keyed → List Keyed
-readied s dirty es = cond dirty (rebuiltEntries (s .n) es) es
-
--- w became w', and the keys that stood in w are saved if they are rebuilt
-pub record Readied (s : Size) (count : ℕ) (dirty : Bool) (w words phases w' : List ℕ) : Type 0 where
-  pub packed : Packed s count w'
-  pub entries : listed s count w' ≡ readied s dirty (listed s count w)
-  pub long : (length words ≡ 256) × (length phases ≡ 256)
-  pub keys : dirty ≡ true → (take count words ≡ map (λ e. e .wordKey) (listed s count w)) × (take count phases ≡ map (λ e. e .phaseLossKey) (listed s count w))
+-- what it leaves that works on the entries with the keys they have, whatever the flag says
+abbrev pub actedReady : Noise → Lent → Left
+actedReady c x = left (noise c) x (sumOf x) (act engine (noise c) (sumOf x))

@@ -15,7 +15,7 @@ use model::Answer;
 use model::Header;
 use model::Size;
 ghost use mathlib.Core.Path.{_≡_};
-ghost use mathlib.Core.Bool.{true};
+ghost use mathlib.Core.Bool.{true, false};
 ghost use Prim.Native.Nat.{_<_, _≤_};
 ghost use lib.ListN.{length, take};
 ghost use Rattle.model.specs.Floats.{finiteFromZero};
@@ -23,8 +23,9 @@ ghost use Rattle.model.specs.Entries.{listed};
 ghost use Rattle.model.specs.Channels.{Noise};
 ghost use Rattle.model.specs.Calls as Calls;
 ghost use Rattle.model.specs.Sound.{Packed};
+ghost use Rattle.rebuild.specs.Saved.{withWeights};
 ghost use Rattle.arms.specs.Arms.{Stands};
-ghost use Rattle.noise.specs.Finish.{Renormalised, Finished, putBack, Readied};
+ghost use Rattle.noise.specs.Finish.{Renormalised, Finished, actedReady};
 ghost use Rattle.noise.specs.Tests.{MayRun};
 
 // ---- the end of a channel
@@ -74,79 +75,66 @@ pub fn finish(store: &mut [u64], size: Size, cutoff: f64, p: Progress) -> Ending
     }
 }
 
-// The first `count` of `total` entries as they were before the call, and no others.
-pub fn undo(
-    store: &mut [u64],
-    size: Size,
-    count: usize,
-    total: usize,
-    saved: &[u64; 256],
-    dirty: bool,
-    words: &[u64; 256],
-    phases: &[u64; 256],
-)
-    requires { ⌜ Packed size total (now store) × (count ≤ total) ⌝ }
-    requires { ⌜ (length (now saved) ≡ 256) × (length (now words) ≡ 256) × (length (now phases) ≡ 256) ⌝ }
-    ensures { λ _. ⌜ Packed size count (now (store .exit)) × (listed size count (now (store .exit)) ≡ putBack dirty (take count (now (saved .entry))) (take count (now (words .entry))) (take count (now (phases .entry))) (take count (listed size total (now (store .entry))))) ⌝ }
+// The first `count` of `total` entries with the weights they had before the call, and no others.
+pub fn undo(store: &mut [u64], size: Size, count: usize, total: usize, saved: &[u64; 256])
+    requires { ⌜ Packed size total (now store) × (count ≤ total) × (length (now saved) ≡ 256) ⌝ }
+    ensures { λ _. ⌜ Packed size count (now (store .exit)) × (listed size count (now (store .exit)) ≡ withWeights (take count (now (saved .entry))) (take count (listed size total (now (store .entry))))) ⌝ }
 {
     entries::clear_from(store, size, count, total);
     rebuild::restore_weights(store, size, count, saved);
-    if dirty {
-        rebuild::restore_keys(store, size, count, words, phases);
-    }
 }
 
-// ---- a channel
+// ---- a channel, on a sum that its tests let through: 0, 6 or 9
 
-// A dirty sum's keys are saved and rebuilt.
-pub fn ready(
-    store: &mut [u64],
-    words: &mut [u64; 256],
-    phases: &mut [u64; 256],
-    size: Size,
-    count: usize,
-    dirty: bool,
-)
-    requires { ⌜ Packed size count (now store) × (length (now words) ≡ 256) × (length (now phases) ≡ 256) ⌝ }
-    ensures { λ _. ⌜ Readied size count dirty (now (store .entry)) (now (words .exit)) (now (phases .exit)) (now (store .exit)) ⌝ }
-{
-    if dirty {
-        rebuild::save_keys(words, phases, store, size, count);
-        rebuild::rebuild_keys(store, size, count);
-    }
-}
-
-// The channel itself, on a sum that its tests let through: 0, 6 or 9.
-pub fn run(h: Header, store: &mut [u64], arms: Arms) -> Answer
+// With the keys that the entries have, whatever the flag says. An accepted channel clears the flag.
+pub fn run_ready(h: Header, store: &mut [u64], arms: Arms) -> Answer
     requires { ⌜ MayRun (Calls.held h (now store)) arms ⌝ }
-    ensures { λ r. ⌜ ((c : Noise) → Stands arms c → Calls.gave r (now (store .exit)) ≡ Calls.acted (Calls.noise c) (Calls.held h (now (store .entry)))) ⌝ }
+    ensures { λ r. ⌜ (r .number ≡ 0 → r .header .dirty ≡ false) ⌝ }
+    ensures { λ r. ⌜ ((c : Noise) → Stands arms c → Calls.gave r (now (store .exit)) ≡ actedReady c (Calls.held h (now (store .entry)))) ⌝ }
 {
     let size = h.size;
     let count = h.count;
-    let dirty = h.dirty;
     let limits = Limits {
         size,
         threshold: h.threshold,
         cutoff: h.cutoff,
     };
-    let mut words = [0u64; 256];
-    let mut phases = [0u64; 256];
     let mut saved = [0u64; 256];
-    ready(store, &mut words, &mut phases, size, count, dirty);
     let p = spread::spread(store, &mut saved, limits, arms, count);
     let end = finish(store, size, h.cutoff, p);
     if end.number == 0 {
         return merging::answer(h, end.count, p, end.taken);
     }
-    undo(
-        store,
-        size,
-        count,
-        end.count,
-        &saved,
-        dirty,
-        &words,
-        &phases,
-    );
+    undo(store, size, count, end.count, &saved);
     answers::plain_answer(h, end.number)
+}
+
+// A dirty sum's keys are rebuilt first. They are saved, since a refused channel leaves them as they were.
+pub fn run_dirty(h: Header, store: &mut [u64], arms: Arms) -> Answer
+    requires { ⌜ MayRun (Calls.held h (now store)) arms × (h .dirty ≡ true) ⌝ }
+    ensures { λ r. ⌜ ((c : Noise) → Stands arms c → Calls.gave r (now (store .exit)) ≡ Calls.acted (Calls.noise c) (Calls.held h (now (store .entry)))) ⌝ }
+{
+    let size = h.size;
+    let count = h.count;
+    let mut words = [0u64; 256];
+    let mut phases = [0u64; 256];
+    rebuild::save_keys(&mut words, &mut phases, store, size, count);
+    rebuild::rebuild_keys(store, size, count);
+    let answer = run_ready(h, store, arms);
+    if answer.number == 0 {
+        return answer;
+    }
+    rebuild::restore_keys(store, size, count, &words, &phases);
+    answer
+}
+
+// The channel itself. Only a dirty sum pays for room to save its keys.
+pub fn run(h: Header, store: &mut [u64], arms: Arms) -> Answer
+    requires { ⌜ MayRun (Calls.held h (now store)) arms ⌝ }
+    ensures { λ r. ⌜ ((c : Noise) → Stands arms c → Calls.gave r (now (store .exit)) ≡ Calls.acted (Calls.noise c) (Calls.held h (now (store .entry)))) ⌝ }
+{
+    if h.dirty {
+        return run_dirty(h, store, arms);
+    }
+    run_ready(h, store, arms)
 }
