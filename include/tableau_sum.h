@@ -63,9 +63,8 @@ extern "C" {
 #define TABLEAU_SUM_PAIRS 15
 
 /*
- * Every call takes less stack than this. Measured by examples/c/stack.c, as gcc builds it: at most 30,104 bytes, by a list with a two-qubit
- * channel on a dirty sum; by that channel itself 29,288. (Where the dynamic linker has to find memcpy in the middle of a call it takes some
- * 3,150 bytes more: 32,456 for that channel.)
+ * Every call takes less stack than this. Measured by examples/c/stack.c, as gcc builds it: at most 24,392 bytes, by a list; by a reset itself
+ * 23,432. (Where the dynamic linker has to find memcpy in the middle of a call it takes some 3,150 bytes more.)
  */
 #define TABLEAU_SUM_STACK_BYTES 36864
 
