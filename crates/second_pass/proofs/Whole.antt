@@ -2,9 +2,12 @@
 -- first that is refused however it ends. Assumes nothing.
 use Prim.Native.Nat.{ℕ}
 use mathlib.Core.Path.{_≡_, refl, sym, ap, subst, _∙_}
-use mathlib.Core.Bool.{Bool, true, false, true≢false, cond, not, _&&_}
+use mathlib.Core.Bool.{Bool, true, false, cond, not, _&&_}
 use mathlib.Core.List.{List, [], _∷_, _++_, append-assoc, append-nil}
 use lib.Dec.{eqb}
+use lib.Ieee.{Float}
+use native.Mathlib.Omega.{arith}
+use denote.Enum.Declared.{tagOf}
 use borrow.Author.Tests.{eq-eqb, ne-eqb}
 use Rattle.model.specs.Calls.{Call, Lent, step}
 use Rattle.model.specs.Demand3.{next, afterCalls, madeOf}
@@ -12,9 +15,10 @@ use Rattle.input.specs.declared.Found.{Found}
 use Rattle.passes.specs.declared.Outcome.{Outcome}
 use Rattle.passes.specs.declared.Outcome.the-variants as Outcome
 use Rattle.circuit.specs.declared.lines.Item.{Item}
-use Rattle.passes.specs.Going.{goes, atEnd}
+use Rattle.passes.specs.Going.{goes}
+use Rattle.passes.proofs.Outcome.{the-type}
 use Rattle.second_pass.proofs.Lines.{not-going}
-use Rattle.second_pass.specs.Lines.{lineCalls, circuitCalls, After, goes-on-after, unwritten, too-much-lost, refused, Made, all-made, goes-on, ends, Stands, nothing, opened, too-deep, closed, no-repeat, bad, Ran, instruction, other, Unread, done, too-long, failed, cut, line, no-line, Passed, begun, then, Accepted, none, one, Whole, leavesOff, UpToRefusal}
+use Rattle.second_pass.specs.Lines.{lineCalls, circuitCalls, After, goes-on-after, unwritten, too-much-lost, refused, Made, all-made, goes-on, ends, Stands, nothing, opened, too-deep, closed, no-repeat, bad, Ran, instruction, other, Unread, done, too-long, failed, cut, line, no-line, Passed, begun, then, Accepted, none, one, Whole, UpToRefusal}
 
 -- ---- calls that are all accepted, and those behind them
 
@@ -54,7 +58,7 @@ record Reached (cs : List Call) (x y : Lent) (o : Outcome) : Type 0 where
   left : List Call
   all : cs ≡ reached ++ left
   is : y ≡ afterCalls (madeOf true reached x) x
-  none-left : leavesOff o ≡ false → left ≡ []
+  none-left : (o ≡ Outcome.Unwritten → ⊥) → ((lost : Float) → o ≡ Outcome.TooMuchLost lost → ⊥) → left ≡ []
 
 after-zero : {n : ℕ} → After n Outcome.Going → n ≡ 0
 after-zero (goes-on-after e) = e
@@ -65,10 +69,23 @@ made-all all-made g = record { is = refl; accepted = none }
 made-all (goes-on a m) g = let r = made-all m g in record { is = r .is; accepted = one (after-zero a) (r .accepted) }
 made-all (ends a h) g = absurd (h g)
 
+-- it was left off behind an accepted call
+left-off : (c : Call) (cs : List Call) (x : Lent) (o : Outcome) → step c x .answer .number ≡ 0 → ((o ≡ Outcome.Unwritten → ⊥) → ((lost : Float) → o ≡ Outcome.TooMuchLost lost → ⊥) → ⊥)
+    → Reached (c ∷ cs) x (next (step c x)) o
+unfolding afterCalls madeOf
+left-off c cs x o e h =
+    record {
+      reached = c ∷ [];
+      left = cs;
+      all = refl;
+      is = ap (λ (b : Bool). afterCalls (cond b [] []) (next (step c x))) (sym (goes-past (step c x .answer .number) e));
+      none-left = λ u l. absurd (h u l);
+    }
+
 made-reached : {cs : List Call} {x y : Lent} {o : Outcome} → Made cs x y o → Reached cs x y o
-unfolding afterCalls madeOf leavesOff
-made-reached all-made = record { reached = []; left = []; all = refl; is = refl; none-left = λ e. refl }
-made-reached {y = y} (goes-on {c = c} {cs = cs} {x = x} a m) =
+unfolding afterCalls madeOf
+made-reached all-made = record { reached = []; left = []; all = refl; is = refl; none-left = λ u l. refl }
+made-reached (goes-on {c = c} {x = x} a m) =
     let r = made-reached m in
     let n = goes-past (step c x .answer .number) (after-zero a) in
     record {
@@ -79,29 +96,15 @@ made-reached {y = y} (goes-on {c = c} {cs = cs} {x = x} a m) =
       none-left = r .none-left;
     }
 made-reached (ends (goes-on-after e) h) = absurd (h refl)
-made-reached (ends {c = c} {cs = cs} {x = x} (unwritten e) h) =
-    record {
-      reached = c ∷ [];
-      left = cs;
-      all = refl;
-      is = ap (λ (b : Bool). afterCalls (cond b [] []) (next (step c x))) (sym (goes-past (step c x .answer .number) e));
-      none-left = λ f. absurd (true≢false f);
-    }
-made-reached (ends {c = c} {cs = cs} {x = x} (too-much-lost e) h) =
-    record {
-      reached = c ∷ [];
-      left = cs;
-      all = refl;
-      is = ap (λ (b : Bool). afterCalls (cond b [] []) (next (step c x))) (sym (goes-past (step c x .answer .number) e));
-      none-left = λ f. absurd (true≢false f);
-    }
+made-reached (ends {c = c} {cs = cs} {x = x} (unwritten e) h) = left-off c cs x Outcome.Unwritten e (λ u l. u refl)
+made-reached (ends {c = c} {cs = cs} {x = x} (too-much-lost {lost = lost} e) h) = left-off c cs x (Outcome.TooMuchLost lost) e (λ u l. l lost refl)
 made-reached (ends {c = c} {cs = cs} {x = x} (refused n) h) =
     record {
       reached = c ∷ cs;
       left = [];
       all = sym (append-nil (c ∷ cs));
       is = ap (λ (b : Bool). afterCalls (cond b [] (madeOf true cs (next (step c x)))) (next (step c x))) (sym (ends-there (step c x .answer .number) n));
-      none-left = λ f. refl;
+      none-left = λ u l. refl;
     }
 
 -- of whatever a line asks for
@@ -113,28 +116,30 @@ ran-all (other s) g = record { is = refl; accepted = none }
 ran-reached : {i : Item} {cs : List Call} {x y : Lent} {o : Outcome} → Ran i cs x y o → Reached cs x y o
 unfolding afterCalls madeOf
 ran-reached (instruction m) = made-reached m
-ran-reached (other s) = record { reached = []; left = []; all = refl; is = refl; none-left = λ e. refl }
+ran-reached (other s) = record { reached = []; left = []; all = refl; is = refl; none-left = λ u l. refl }
 
 -- ---- the circuit's end is read in no line
 
-made-not-end : {cs : List Call} {x y : Lent} {o : Outcome} → Made cs x y o → atEnd o ≡ false
-unfolding atEnd
-made-not-end all-made = refl
-made-not-end (goes-on a m) = made-not-end m
-made-not-end (ends (goes-on-after e) h) = refl
-made-not-end (ends (unwritten e) h) = refl
-made-not-end (ends (too-much-lost e) h) = refl
-made-not-end (ends (refused e) h) = refl
+-- an outcome of another variant than the circuit's end
+other-outcome : (o : Outcome) → (tagOf the-type o ≡ 1 → ⊥) → o ≡ Outcome.Done → ⊥
+other-outcome o h e = h (ap (tagOf the-type) e)
 
-ran-not-end : {i : Item} {cs : List Call} {x y : Lent} {o : Outcome} → Ran i cs x y o → atEnd o ≡ false
-unfolding atEnd
+made-not-end : {cs : List Call} {x y : Lent} {o : Outcome} → Made cs x y o → o ≡ Outcome.Done → ⊥
+made-not-end all-made = other-outcome _ (λ z. omega (arith, z))
+made-not-end (goes-on a m) = made-not-end m
+made-not-end (ends (goes-on-after e) h) = other-outcome _ (λ z. omega (arith, z))
+made-not-end (ends (unwritten e) h) = other-outcome _ (λ z. omega (arith, z))
+made-not-end (ends (too-much-lost e) h) = other-outcome _ (λ z. omega (arith, z))
+made-not-end (ends (refused e) h) = other-outcome _ (λ z. omega (arith, z))
+
+ran-not-end : {i : Item} {cs : List Call} {x y : Lent} {o : Outcome} → Ran i cs x y o → o ≡ Outcome.Done → ⊥
 ran-not-end (instruction m) = made-not-end m
-ran-not-end (other nothing) = refl
-ran-not-end (other opened) = refl
-ran-not-end (other too-deep) = refl
-ran-not-end (other closed) = refl
-ran-not-end (other no-repeat) = refl
-ran-not-end (other bad) = refl
+ran-not-end (other nothing) = other-outcome _ (λ z. omega (arith, z))
+ran-not-end (other opened) = other-outcome _ (λ z. omega (arith, z))
+ran-not-end (other too-deep) = other-outcome _ (λ z. omega (arith, z))
+ran-not-end (other closed) = other-outcome _ (λ z. omega (arith, z))
+ran-not-end (other no-repeat) = other-outcome _ (λ z. omega (arith, z))
+ran-not-end (other bad) = other-outcome _ (λ z. omega (arith, z))
 
 unread-ends : {found : Found} {o : Outcome} → Unread found o → o ≡ Outcome.Going → ⊥
 unfolding goes
@@ -170,9 +175,9 @@ passed-going (then p (no-line u)) g = absurd (unread-ends u g)
 
 -- A PASS THAT ENDS WITH THE CIRCUIT'S END has made all calls of all lines, and each was accepted
 pub passed-done : {x y : Lent} {o : Outcome} → Passed x y o → o ≡ Outcome.Done → Whole x y
-unfolding atEnd goes
+unfolding goes
 passed-done begun e = absurd (not-going _ refl (sym e))
-passed-done (then p (line r)) e = absurd (true≢false (sym (ap atEnd e) ∙ ran-not-end r))
+passed-done (then p (line r)) e = absurd (ran-not-end r e)
 passed-done (then p (no-line u)) e = passed-going p refl
 
 whole-reached : {x y : Lent} (o : Outcome) → Whole x y → UpToRefusal x y o
@@ -186,7 +191,7 @@ whole-reached {x = x} o w =
       left = [];
       all = sym e;
       is = w .is ∙ ap (λ (l : List Call). afterCalls l x) (sym (ap (λ (l : List Call). madeOf true l x) (sym e) ∙ made-past [] (w .accepted) ∙ e));
-      none-left = λ f. refl;
+      none-left = λ u l. refl;
     }
 
 -- HOWEVER IT ENDS, the calls up to the first refusal were made

@@ -2,7 +2,7 @@
 -- (A line is what was read; that it is the circuit's is no matter of contracts.) Assumes nothing.
 use Prim.Native.Nat.{ℕ}
 use mathlib.Core.Path.{_≡_}
-use mathlib.Core.Bool.{Bool, true, false}
+use mathlib.Core.Bool.{true}
 use mathlib.Core.List.{List, [], _∷_, _++_, map}
 use lib.Ieee.{Float}
 use Rattle.model.specs.Calls.{Call, Lent, step}
@@ -107,27 +107,12 @@ pub record Whole (x y : Lent) : Type 0 where
   pub is : y ≡ afterCalls (circuitCalls lines) x
   pub accepted : Accepted (circuitCalls lines) x
 
--- the outcomes that leave calls unmade though none was refused: then no result is printed
-unfoldable pub leavesOff : Outcome → Bool
-leavesOff Outcome.Unwritten = true
-leavesOff (Outcome.TooMuchLost lost) = true
-leavesOff Outcome.Going = false
-leavesOff Outcome.Done = false
-leavesOff (Outcome.Bad fault) = false
-leavesOff Outcome.Rates = false
-leavesOff Outcome.TooLong = false
-leavesOff Outcome.Failed = false
-leavesOff Outcome.Cut = false
-leavesOff Outcome.TooDeep = false
-leavesOff Outcome.NoRepeat = false
-leavesOff (Outcome.Unclosed at) = false
-leavesOff (Outcome.Refused number p q) = false
-
--- however a pass ends: the calls of the lines up to the first that is refused
+-- however a pass ends: the calls of the lines up to the first that is refused. Calls are left unmade though none was refused only where a line of the trace could not be
+-- written or too much was lost: then no result is printed
 pub record UpToRefusal (x y : Lent) (o : Outcome) : Type 0 where
   pub lines : List (List ℕ)
   pub reached : List Call
   pub left : List Call
   pub all : circuitCalls lines ≡ reached ++ left
   pub is : y ≡ afterCalls (madeOf true reached x) x
-  pub none-left : leavesOff o ≡ false → left ≡ []
+  pub none-left : (o ≡ Outcome.Unwritten → ⊥) → ((lost : Float) → o ≡ Outcome.TooMuchLost lost → ⊥) → left ≡ []
