@@ -1,10 +1,10 @@
 """What run_circuit does with a circuit, by a parser of its own over the calls of second.py.
 
-    circuits.py                                         examples/expected/ agrees with it
-    circuits.py sheet|page|table|trace|summary FILE     prints one, with the options that the file names
+    circuits.py                                               examples/expected/ agrees with it
+    circuits.py sheet|page|table|trace|summary|tried FILE     prints one, with the options that the file names
 
-A comment in an example names the options that it is run with. Of a table, a trace or a summary the numbers are compared, floats to 8
-digits: run_circuit works its digits out in floats.
+A comment in an example names the options that it is run with, and another one those with which cutoffs are tried on it. Of a table, a trace
+or a summary the numbers are compared, floats to 8 digits: run_circuit works its digits out in floats.
 """
 
 import math
@@ -202,47 +202,64 @@ def any_call(items):
     return any(any_call(item.items) if isinstance(item, Block) else item.calls for item in items)
 
 
-def calls(items):
-    """Each call: its instruction and qubits. A block without calls is passed over."""
+def instructions(items):
+    """Each in its turn. A block without calls is gone through once."""
     for item in items:
         if isinstance(item, Instruction):
-            yield from ((item, qubits) for qubits in item.calls)
-        elif any_call(item.items):
-            for _ in range(item.times):
-                yield from calls(item.items)
+            yield item
+        else:
+            for _ in range(item.times if any_call(item.items) else 1):
+                yield from instructions(item.items)
+
+
+def calls(items):
+    """Each call: its instruction and qubits."""
+    return ((instruction, qubits) for instruction in instructions(items) for qubits in instruction.calls)
 
 
 # ---- calls
 
 
-def options_of(data):
+def options_of(data, comment="options"):
     """The options that a comment names, each with its value."""
-    words = b"".join(re.findall(rb"^# options:(.*)", data, re.MULTILINE)).decode().split()
+    words = b"".join(re.findall(b"^# %s:(.*)" % comment.encode(), data, re.MULTILINE)).decode().split()
     return {name.lstrip("-"): value for name, value in zip(words[::2], words[1::2])}
+
+
+def lent(options, needed):
+    """Qubits, K and capacity, the threshold, and the words of a store."""
+    n, capacity = int(options.get("qubits", needed)), int(options.get("capacity", 256))
+    return n, 1, capacity, float(options.get("threshold", 1e-8)), [0] * (capacity * second.entry_length(n, 1))
 
 
 def begun(options, needed):
     """The header and words of the fresh sum."""
-    n, capacity = int(options.get("qubits", needed)), int(options.get("capacity", 256))
-    threshold, cutoff = float(options.get("threshold", 1e-8)), float(options.get("cutoff", 0))
-    a = second.fresh(n, 1, capacity, threshold, cutoff, [0] * (capacity * second.entry_length(n, 1)))
+    *given, words = lent(options, needed)
+    a = second.fresh(*given, float(options.get("cutoff", 0)), words)
     assert a.number == 0
     return a.header, a.words
 
 
+def channel_of(name, p):
+    """A channel on one qubit: its call and its rates. None for another instruction."""
+    if name in ("I_ERROR", "DEPOLARIZE1"):
+        return (second.loss if name == "I_ERROR" else second.depolarizing), p
+    paulis = {"X_ERROR": [*p, 0.0, 0.0], "Y_ERROR": [0.0, *p, 0.0], "Z_ERROR": [0.0, 0.0, *p], "PAULI_CHANNEL_1": p}
+    return (second.pauli, paulis[name]) if name in paulis else None
+
+
 def made(header, words, name, p, qubits):
+    channel = channel_of(name, p)
+    if channel:
+        return channel[0](header, words, *channel[1], *qubits)
     gates = {"H": second.turned_h, "S": second.turned_s, "CX": second.turned_cnot, "CNOT": second.turned_cnot}
     if name in gates:
         return second.gate(header, words, gates[name], *qubits)
-    paulis = {"X_ERROR": [*p, 0.0, 0.0], "Y_ERROR": [0.0, *p, 0.0], "Z_ERROR": [0.0, 0.0, *p], "PAULI_CHANNEL_1": p}
-    if name in paulis:
-        return second.pauli(header, words, *paulis[name], *qubits)
     if name == "PAULI_CHANNEL_2":
         return second.two_qubit_pauli_error(header, words, p, *qubits)
     if name == "I":
         return second.reset_loss_channel(header, words, *qubits)
-    channels = {"I_ERROR": second.loss, "DEPOLARIZE1": second.depolarizing, "DEPOLARIZE2": second.depolarize2}
-    return channels[name](header, words, *p, *qubits)
+    return second.depolarize2(header, words, *p, *qubits)
 
 
 def lost_too(lost, part, whole):
@@ -257,6 +274,10 @@ def lost_after(lost, a, whole):
     return lost_too(lost_too(lost, a.lost.dropped, whole), a.lost.truncated, 1.0 if a.counts.dropped else whole)
 
 
+def tagged(instruction):
+    return instruction.written + TAGS.get(instruction.name, b"").decode()
+
+
 def run(data):
     """The header and words at the end, what a trace shows for each call, and what was lost of the initial weight."""
     options = options_of(data)
@@ -268,11 +289,53 @@ def run(data):
         whole = second.total_weight(second.entries_of(header, words))
         a = made(header, words, instruction.name, instruction.rates, qubits)
         header, words, lost = a.header, a.words, lost_after(lost, a, whole)
-        name = instruction.written + TAGS.get(instruction.name, b"").decode()
         on = ",".join(map(str, qubits))
-        shown.append([instruction.line, name, on, a.number, *a.counts, header.count, *a.lost])
+        shown.append([instruction.line, tagged(instruction), on, a.number, *a.counts, header.count, *a.lost])
         assert a.number == 0, shown[-1]
     return header, words, shown, lost
+
+
+# ---- cutoffs tried
+
+
+class NoStep(Exception):
+    """An instruction that is no step of a trial, or has one step too many: its line, and which of the two."""
+
+
+def steps_of(items):
+    """Each step: its instruction and qubit."""
+    steps = []
+    for instruction in instructions(items):
+        if instruction.name != "TICK" and not channel_of(instruction.name, instruction.rates):
+            raise NoStep(instruction.line, "no step")
+        steps += [(instruction, q) for (q,) in instruction.calls]
+        if len(steps) > second.MOST_STEPS:
+            raise NoStep(instruction.line, "too many")
+    return steps
+
+
+def tried(looked, options):
+    """The rows of the table; and of each trial that ended early its cutoff, and the step's number, line, qubit and refusal."""
+    cutoffs = options["try-cutoffs"].split(",")
+    steps = steps_of(looked.items)
+    *given, words = lent(options, looked.qubits)
+    channels = [(*channel_of(i.name, i.rates), q) for i, q in steps]
+    room = 2 * len(cutoffs) * len(steps)
+    a, places = second.try_cutoffs(*given, list(map(float, cutoffs)), channels, words, room)
+    assert a.number == 0
+    rows = [[at, i.line, tagged(i), q] for at, (i, q) in enumerate(steps, 1)]
+    ended = []
+    for cutoff, first in zip(cutoffs, range(0, room, 2 * len(steps))):
+        numbers = places[first : first + 2 * len(steps) : 2]
+        for row, number, entries in zip(rows, numbers, places[first + 1 :: 2]):
+            row.append(f"!{number}" if number else entries)
+        ended += [(cutoff, at, line, q, n) for (at, line, _, q, *_), n in zip(rows, numbers) if n][:1]
+    return rows, ended
+
+
+def tried_rows(data):
+    options = options_of(data, "trials")
+    return tried(look(data, int(options.get("qubits", 64))), options)[0]
 
 
 # ---- what is printed
@@ -330,17 +393,30 @@ def agrees(name, kind, given, wanted):
 KINDS = {"sheet": sheet, "page": page, "table": table, "trace": trace, "summary": summary}
 
 
+def one(kind, data):
+    given = tried_rows(data) if kind == "tried" else KINDS[kind](*run(data))
+    print(given if isinstance(given, str) else "\n".join(" ".join(map(str, row)) for row in given), end="")
+
+
+def all_agree():
+    for circuit in sorted(EXAMPLES.glob("*.stim")):
+        data = circuit.read_bytes()
+        ran = run(data)
+        wanted = {kind: give(*ran) for kind, give in KINDS.items()}
+        if options_of(data, "trials"):
+            wanted["tried"] = tried_rows(data)
+        for kind, want in wanted.items():
+            agrees(circuit.stem, kind, (EXAMPLES / "expected" / f"{circuit.stem}.{kind}").read_text(), want)
+
+
 def main(words):
-    if len(words) == 2 and words[0] in KINDS:
-        given = KINDS[words[0]](*run(pathlib.Path(words[1]).read_bytes()))
-        print(given if isinstance(given, str) else "\n".join(" ".join(map(str, row)) for row in given), end="")
-    elif words:
+    if not words:
+        all_agree()
+    elif len(words) == 2 and words[0] in [*KINDS, "tried"]:
+        one(words[0], pathlib.Path(words[1]).read_bytes())
+    else:
         print(__doc__, file=sys.stderr)
         sys.exit(2)
-    for circuit in sorted(EXAMPLES.glob("*.stim")) if not words else []:
-        ran = run(circuit.read_bytes())
-        for kind, give in KINDS.items():
-            agrees(circuit.stem, kind, (EXAMPLES / "expected" / f"{circuit.stem}.{kind}").read_text(), give(*ran))
 
 
 if __name__ == "__main__":

@@ -162,6 +162,19 @@ class Sum:
         self.list_told("run_calls", 0, 0)
 
 
+    def trials(self, n, cutoffs, qubits, room=8 * 4, number=None):
+        """The steps of every_call.c at these qubits; a number of its own is given for slices that do not fit."""
+        steps = [(*step, q) for step, q in zip(STEPS, qubits)]
+        a, places = try_cutoffs(n, K, CAPACITY, 0.5, cutoffs, steps, self.words, room)
+        if number:
+            a, places = refused(number, a.header, self.words), []
+        self.words = a.words
+        tell("try_cutoffs", a.number, ZERO_HEADER if a.number else a.header, digest(self.words), length=len(places))
+        for i in range(0, len(places), 8):
+            print("trial", *places[i : i + 8])
+
+
+STEPS = [(pauli, (0.25, 0.125, 0.0625)), (loss, (0.25,)), (depolarizing, (1.0,)), (loss, (0.125,))]
 CIRCUIT = [
     ("normalise", normalise),
     ("truncate", truncate),
@@ -210,3 +223,12 @@ def main():
     run = Sum(CAPACITY, 0.0)
     run.shows(SHOWS)
     run.unfit_lists()
+    cutoffs, qubits = [0.0, 1 / 64, 0.5, 1.0], [0, 1, 0, 0]
+    run.trials(N, cutoffs, qubits)
+    run.trials(N, cutoffs[:2], [0, N, 0, 0])
+    run.trials(65, cutoffs[:2], qubits)
+    run.trials(N, [], qubits)
+    run.trials(N, [0.0, math.nan], qubits)
+    run.trials(N, cutoffs, qubits, room=8 * 4 - 1)
+    for _ in range(3):
+        run.trials(N, cutoffs, qubits, number=19)

@@ -1,9 +1,9 @@
-"""Circuits mutated at random: run_circuit and circuits.py give the same sheet, or refuse the same lines.
+"""Circuits mutated at random: run_circuit and circuits.py give the same sheet, or the same table of tried cutoffs, or refuse the same lines.
 
     python3 -B differential/mutated.py [COUNT [SEED]]     20000 and 1, if they are not named
 
 The circuits of examples/, the bad ones too, and a few made here are taken as they are, and then mutated COUNT times. A bad line is compared
-by its number, a refused call by its line and number; a circuit that makes many calls is passed over. A difference is told by the
+by its number, a refused call by its line and number, an instruction that no trial has by its line; a circuit that makes many calls is passed over. A difference is told by the
 smallest circuit that was found to show it, which is kept in target/mutated.stim, and ends the run with status 1. RUN_CIRCUIT can name
 another program than target/bin/run_circuit.
 """
@@ -151,13 +151,32 @@ def mutated(chance, data):
 
 
 def options_for(chance):
-    options = {"capacity": "16", "cutoff": chance.choice(["1e-3", "0.02", "0"])}
+    cutoffs = ["1e-3", "0.02", "0"]
+    options = {"capacity": "16", "cutoff": chance.choice(cutoffs)}
+    if chance.random() < 0.3:
+        options = {"capacity": "16", "try-cutoffs": ",".join(chance.choices(cutoffs, k=chance.randint(1, circuits.second.MOST_CUTOFFS)))}
     if chance.random() < 0.4:
         options["qubits"] = str(chance.randint(1, 6))
     return options
 
 
-# ---- both sides: a sheet, bad lines and whether there are more, a refused call, or no qubits
+def channels_alone(data):
+    """Those lines of a circuit that no trial refuses for their instruction."""
+    return b"\n".join(line for line in data.split(b"\n") if not re.match(rb"[ \t]*(H|S|CX|CNOT|I|DEPOLARIZE2|PAULI_CHANNEL_2)\b(?!_)", line, re.IGNORECASE))
+
+
+# ---- both sides: a sheet, a table of trials and what ended them, bad lines and whether there are more, a refused call, an instruction that no
+# trial has, no step, or no qubits
+
+
+def tried(looked, options):
+    try:
+        if not circuits.steps_of(looked.items):
+            return ("no step at all",)
+        return "tried", *circuits.tried(looked, options)
+    except circuits.NoStep as none:
+        line, which = none.args
+        return which, line
 
 
 def wanted(data, options):
@@ -165,6 +184,8 @@ def wanted(data, options):
     looked = circuits.look(data, int(options.get("qubits", 64)))
     if looked.bad:
         return "bad", looked.bad[:MOST_TOLD], len(looked.bad) > MOST_TOLD
+    if "try-cutoffs" in options:
+        return tried(looked, options)
     if not looked.qubits and "qubits" not in options:
         return ("no qubits",)
     if len(list(itertools.islice(circuits.calls(looked.items), MOST_CALLS + 1))) > MOST_CALLS:
@@ -178,6 +199,15 @@ def wanted(data, options):
     return "sheet", circuits.sheet(header, words, None, None).encode()
 
 
+ENDED = re.compile(r"# cutoff (.*): step (\d+) \(line (\d+), qubit (\d+)\) was refused with (\d+): .*")
+
+
+def table(text):
+    """The rows, as circuits.py has them, and what ended trials."""
+    rows = [[*map(int, row[:2]), row[2], int(row[3]), *(cell if "!" in cell else int(cell) for cell in row[4:])] for row in circuits.numbers(text)]
+    return rows, [(cutoff, *map(int, others)) for cutoff, *others in ENDED.findall(text)]
+
+
 def given(data, options):
     """By the program."""
     words = [word for name, value in options.items() for word in (f"--{name}", value)]
@@ -185,9 +215,16 @@ def given(data, options):
         ran = subprocess.run([PROGRAM, "--quiet", *words], input=data, capture_output=True, timeout=20)
     except subprocess.TimeoutExpired:
         return ("no end",)
+    if ran.stdout and "try-cutoffs" in options:
+        return "tried", *table(ran.stdout.decode())
     if ran.stdout:
         return "sheet", ran.stdout
     told = ran.stderr.decode("latin-1")
+    none = re.fullmatch(r"standard input:(\d+): .*--try-cutoffs takes (channels|64 steps) .*\n", told)
+    if none:
+        return {"channels": "no step", "64 steps": "too many"}[none[2]], int(none[1])
+    if "there is no step to try cutoffs on" in told:
+        return ("no step at all",)
     refused = re.fullmatch(r"standard input:(\d+): .* was refused with (\d+): .*\n", told)
     if refused:
         return "refused", int(refused[1]), int(refused[2])
@@ -239,6 +276,8 @@ def main(count=20000, seed=1):
     tally = Counter()
     for data in itertools.chain(*seeds, (mutated(chance, chance.choice(chance.choice(seeds))) for _ in range(count))):
         options = options_for(chance)
+        if "try-cutoffs" in options and chance.random() < 0.7:
+            data = channels_alone(data)
         want = wanted(data, options)
         tally[want[0] if want else "passed over"] += 1
         if want is not None and given(data, options) != want:

@@ -2,8 +2,8 @@
 """A second program for document 01, and for the requests of document 02 that are built.
 
 Masks, keys, likeness, merging, channels, reset, gates, truncate, normalise and fresh were written from document 01's text; of the code
-only the calls' names, arguments and contracts were known. The table, the pick, the view, the sheet, written and read, and the page were
-written with the code known, so they show slips more than misreadings.
+only the calls' names, arguments and contracts were known. The table, the pick, the view, the sheet, written and read, the page and the
+trials were written with the code known, so they show slips more than misreadings.
 
 A sum is a header and a list of 64-bit words, laid out as "Store words" says. Each call takes both and gives the number,
 the header, the four counts, the weights that were lost and the words as they are afterwards; a refused call gives back what it was given.
@@ -598,7 +598,48 @@ def write_page(header, words, room):
     return written(page_text, header, words, room)
 
 
-PROGRAMS = ("masks_run", "view_run", "replay", "list_run", "planner", "every_call")
+# Document 02, request 2: cutoffs tried before a campaign. A step is a channel on one qubit, its rates and the qubit.
+
+MOST_CUTOFFS = 8
+MOST_STEPS = 64
+
+
+def trial(n, k, capacity, threshold, cutoff, steps, words):
+    """The last call's answer, and for each step two words: after a refusal those of the refused call."""
+    a = fresh(n, k, capacity, threshold, cutoff, words)
+    places = []
+    for channel, rates, q in steps:
+        if a.number == 0:
+            a = channel(a.header, a.words, *rates, q)
+        places += [a.number, a.header.count]
+    return a, places
+
+
+def trials_refusal(n, k, capacity, threshold, cutoffs, steps, words, room):
+    """What is judged before the first trial: 1, 11, 2 and 8, in this order, else 0."""
+    if not limits_hold(n, k, capacity, words):
+        return 1
+    if not (1 <= len(cutoffs) <= MOST_CUTOFFS and 1 <= len(steps) <= MOST_STEPS):
+        return 11
+    if not all(bound_sound(x) for x in (threshold, *cutoffs)):
+        return 2
+    return 8 if room < 2 * len(cutoffs) * len(steps) else 0
+
+
+def try_cutoffs(n, k, capacity, threshold, cutoffs, steps, words, room):
+    """The answer, with the last trial's sum, and the words written: cutoff after cutoff."""
+    number = trials_refusal(n, k, capacity, threshold, cutoffs, steps, words, room)
+    if number:
+        return refused(number, ZERO_HEADER, words), []
+    shown = []
+    for cutoff in cutoffs:
+        a, places = trial(n, k, capacity, threshold, cutoff, steps, words)
+        words = a.words
+        shown += places
+    return Answer(0, a.header, NO_COUNTS, NO_LOSS, words), shown
+
+
+PROGRAMS = ("masks_run", "view_run", "replay", "list_run", "trials_run", "planner", "every_call")
 
 
 def main(name, given_to=None):

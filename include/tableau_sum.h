@@ -25,10 +25,10 @@
  *   - Arithmetic rounds to nearest and keeps subnormal numbers. Programs start so, unless they are linked with gcc's -ffast-math.
  *
  * WHAT IS PROMISED, by proof. Whatever the numbers, headers and words are, a call ends, touches the slices only inside their lengths,
- * and gives exactly what document 01 of the project says; tableau_sum_write_page, what request 1 of document 02 says, the only one of its
- * requests that is built; tableau_sum_run, what its calls give one after the other. For a sum that was begun by tableau_sum_fresh or
- * tableau_sum_read_sheet, and whose header and store nothing but these calls has written since, no branch misses an equal entry because of
- * stale keys.
+ * and gives exactly what document 01 of the project says; tableau_sum_write_page and tableau_sum_try_cutoffs, what requests 1 and 2 of
+ * document 02 say (the others are not built); tableau_sum_run, what its calls give one after the other. For a sum that was begun by
+ * tableau_sum_fresh, tableau_sum_read_sheet or tableau_sum_try_cutoffs, and whose header and store nothing but these calls has written
+ * since, no branch misses an equal entry because of stale keys.
  *
  * Calls on different stores may run at the same time in different threads.
  */
@@ -62,13 +62,19 @@ extern "C" {
 /* the rates of tableau_sum_two_qubit_pauli_error */
 #define TABLEAU_SUM_PAIRS 15
 
+/* the cutoffs and the steps that tableau_sum_try_cutoffs can be given, and the rates of a step */
+#define TABLEAU_SUM_MAX_CUTOFFS 8
+#define TABLEAU_SUM_MAX_STEPS 64
+#define TABLEAU_SUM_STEP_RATES 3
+
 /*
  * Every call takes less stack than this. Measured by examples/c/stack.c, as gcc builds it: at most 24,392 bytes, by a list; by a reset itself
  * 23,432. (Where the dynamic linker has to find memcpy in the middle of a call it takes some 3,150 bytes more.)
  */
 #define TABLEAU_SUM_STACK_BYTES 36864
 
-/* ---- the numbers a call gives: the lowest that applies, but the reader tests TABLEAU_SUM_BAD_SHEET first */
+/* ---- the numbers a call gives: the lowest that applies, but the reader tests TABLEAU_SUM_BAD_SHEET first, and the trials
+ * TABLEAU_SUM_BAD_TRIALS before TABLEAU_SUM_BAD_HEADER */
 
 enum tableau_sum_number {
     /* The call was done. */
@@ -96,8 +102,11 @@ enum tableau_sum_number {
     TABLEAU_SUM_NO_WEIGHT = 9,
     /* A draw is NaN, below 0, or 1 or more. */
     TABLEAU_SUM_BAD_DRAW = 10,
-    /* Of a list of calls, and of no single one: its words are no whole calls of known kinds, or there is no record, no room in it for a
-     * table or a view, or no stretch of text for each. No call of the list was made. (11 to 18 are kept for calls to come.) */
+    /* There are no steps or no cutoffs to be tried, or more than TABLEAU_SUM_MAX_STEPS or TABLEAU_SUM_MAX_CUTOFFS. */
+    TABLEAU_SUM_BAD_TRIALS = 11,
+    /* Of a list of calls: its words are no whole calls of known kinds, or there is no record, no room in it for a table or a view, or no
+     * stretch of text for each. Of the steps of trials: a kind is not known, or there is not a qubit and three rates for each. Of no other
+     * call. Nothing was done. (12 to 18 are kept for calls to come.) */
     TABLEAU_SUM_DOES_NOT_FIT = 19
 };
 
@@ -142,11 +151,11 @@ typedef struct tableau_sum_lost {
 /* What every call gives. A field that the call has no use for is 0, and after a refusal all but the number and the header are. */
 typedef struct tableau_sum_answer {
     uint64_t number;           /* one of enum tableau_sum_number */
-    tableau_sum_header header; /* as it is now. Refused: as it was given; from fresh and read_sheet, zeros */
+    tableau_sum_header header; /* as it is now. Refused: as it was given; from fresh, read_sheet and try_cutoffs, zeros */
     tableau_sum_counts counts;
     tableau_sum_lost lost;
     size_t place;  /* pick: the place of the entry that was picked */
-    size_t length; /* table, write_sheet, write_page: elements written; view: words of the entry */
+    size_t length; /* table, try_cutoffs, write_sheet, write_page: elements written; view: words of the entry */
 } tableau_sum_answer;
 
 /* The layout that the library was built for. */
@@ -189,6 +198,39 @@ TABLEAU_SUM_CALL tableau_sum_answer tableau_sum_fresh(tableau_sum_size size, dou
  * Numbers: 7, then 1, 2, 5.
  */
 TABLEAU_SUM_CALL tableau_sum_answer tableau_sum_read_sheet(const uint8_t *text, size_t text_len, uint64_t *store, size_t store_len);
+
+/* ---- cutoffs tried before a campaign */
+
+/* What a step does at its qubit. */
+enum tableau_sum_step {
+    TABLEAU_SUM_STEP_PAULI_ERROR = 0,  /* with its three rates, as tableau_sum_pauli_error */
+    TABLEAU_SUM_STEP_LOSS_CHANNEL = 1, /* with the first of them, as tableau_sum_loss_channel; the others are not looked at */
+    TABLEAU_SUM_STEP_DEPOLARIZE1 = 2   /* with the first of them, as tableau_sum_depolarize1 */
+};
+
+/* Words that the output of tableau_sum_try_cutoffs needs: two for each step of each trial. */
+static inline size_t tableau_sum_trials_words(size_t cutoffs, size_t steps)
+{
+    return 2 * cutoffs * steps;
+}
+
+/*
+ * For each cutoff a trial: a fresh sum, and the steps on it one by one, as calls of their own would do them, up to the first that is refused.
+ * cutoffs: 1 to TABLEAU_SUM_MAX_CUTOFFS. kinds, qubits, rates: of 1 to TABLEAU_SUM_MAX_STEPS steps; step s is kinds[s] at qubits[s] with
+ * rates[3 * s], rates[3 * s + 1] and rates[3 * s + 2]. A qubit or a rate that is bad is a refusal at its own step, 3 or 4.
+ * store: tableau_sum_store_words(size) words, which may hold anything.
+ * out: tableau_sum_trials_words of both lengths, or more; those past it stay as they are. Step s of trial c has two words, from
+ * out[2 * (c * kinds_len + s)] on: the number that it gave, and how many entries there are after it. After a refusal all places of that
+ * trial show its number and the entries that it left.
+ * Done: number 0, whatever was refused within a trial; header and store are the last trial's sum, with which calls can go on; length is that
+ * of the words written. Refused: a header of zeros, and nothing is changed.
+ * Numbers: 19, then 1, 11, 2, 8, in this order.
+ */
+TABLEAU_SUM_CALL tableau_sum_answer tableau_sum_try_cutoffs(tableau_sum_size size, double threshold, const double *cutoffs,
+                                                            size_t cutoffs_len, const uint64_t *kinds, size_t kinds_len,
+                                                            const size_t *qubits, size_t qubits_len, const double *rates,
+                                                            size_t rates_len, uint64_t *store, size_t store_len, uint64_t *out,
+                                                            size_t out_len);
 
 /* ---- channels: h is the header, store the words that it describes. The answer has the four counts, and the weight that was lost
  *
@@ -721,8 +763,10 @@ static inline const char *tableau_sum_meaning(uint64_t number)
         return "the weights add up to 0, or there is no entry";
     case TABLEAU_SUM_BAD_DRAW:
         return "the draw is NaN, below 0, or 1 or more";
+    case TABLEAU_SUM_BAD_TRIALS:
+        return "there are no steps or no cutoffs to be tried, or more than 64 steps or 8 cutoffs";
     case TABLEAU_SUM_DOES_NOT_FIT:
-        return "the words are no whole calls of known kinds, or there is no room for what they give";
+        return "the calls or steps are not whole or not of known kinds, or there is no room for what the calls give";
     default:
         return "no number of this library";
     }

@@ -3,7 +3,7 @@
  * A line has the call, its number, merged, stored, dropped, compared, the bits of the dropped and of the truncated weight, place, length,
  * the count and flag of the header given back, and a digest of what the call wrote or shows; of the store, if that is nothing else.
  * Then lists of calls: a line for each list, with its number, how many calls were made, count and flag, and digests of what it was lent; and
- * one for each call that was made, from its record.
+ * one for each call that was made, from its record. Then trials of cutoffs: a line for each call, and for each trial that it made.
  */
 #include <inttypes.h>
 #include <math.h>
@@ -270,6 +270,50 @@ static void unfit_lists(void)
     tell_run("run_calls", tableau_sum_run_calls(header, store, WORDS, NULL, 0, NULL, false));
 }
 
+/* ---- cutoffs tried: a line for each call, and one for each trial, with the number and the entries of its steps */
+
+static const uint64_t kinds[] = {TABLEAU_SUM_STEP_PAULI_ERROR, TABLEAU_SUM_STEP_LOSS_CHANNEL, TABLEAU_SUM_STEP_DEPOLARIZE1,
+                                 TABLEAU_SUM_STEP_LOSS_CHANNEL};
+static const size_t qubits[] = {0, 1, 0, 0};
+static const double step_rates[] = {0.25, 0.125, 0.0625, 0.25, 7, 7, 1, 7, 7, 0.125, 7, 7};
+#define STEPS LENGTH(kinds)
+
+static uint64_t places[2 * 4 * STEPS];
+
+/* With the steps above, or some of it another. */
+static void try_all(tableau_sum_size s, const double *cutoffs, size_t cutoffs_len, const uint64_t *k, const size_t *q, size_t qubits_len,
+                size_t rates_len, size_t out_len)
+{
+    const tableau_sum_answer a = tableau_sum_try_cutoffs(s, 0.5, cutoffs, cutoffs_len, k, STEPS, q, qubits_len, step_rates, rates_len, store,
+                                                         WORDS, places, out_len);
+    tell("try_cutoffs", a, digest_of(store, WORDS));
+    for (size_t i = 0; i < a.length / (2 * STEPS); i++) {
+        printf("trial");
+        for (size_t j = 0; j < STEPS; j++)
+            printf(" %" PRIu64 " %" PRIu64, places[2 * (i * STEPS + j)], places[2 * (i * STEPS + j) + 1]);
+        printf("\n");
+    }
+}
+
+/* Every number; trials that end by 9 and by 3, and one on an empty sum. */
+static void trials(void)
+{
+    const double cutoffs[] = {0, 1.0 / 64, 0.5, 1}, no_bound[] = {0, (double)NAN};
+    const size_t outside[] = {0, N, 0, 0};
+    const uint64_t unknown[] = {0, 1, 3, 1};
+    const tableau_sum_size large = {TABLEAU_SUM_MAX_QUBITS + 1, K, CAPACITY};
+    const size_t all_rates = LENGTH(step_rates), room_for_all = LENGTH(places);
+    try_all(size, cutoffs, 4, kinds, qubits, STEPS, all_rates, room_for_all);
+    try_all(size, cutoffs, 2, kinds, outside, STEPS, all_rates, room_for_all);
+    try_all(large, cutoffs, 2, kinds, qubits, STEPS, all_rates, room_for_all);
+    try_all(size, cutoffs, 0, kinds, qubits, STEPS, all_rates, room_for_all);
+    try_all(size, no_bound, 2, kinds, qubits, STEPS, all_rates, room_for_all);
+    try_all(size, cutoffs, 4, kinds, qubits, STEPS, all_rates, room_for_all - 1);
+    try_all(size, cutoffs, 4, unknown, qubits, STEPS, all_rates, room_for_all);
+    try_all(size, cutoffs, 4, kinds, qubits, STEPS - 1, all_rates, room_for_all);
+    try_all(size, cutoffs, 4, kinds, qubits, STEPS, all_rates - 1, room_for_all);
+}
+
 /* ---- the bits of a NaN. The proofs know one NaN only, so that a refused call hands its bits back as they were given is tested */
 
 static bool same_bounds(tableau_sum_header a, tableau_sum_header b)
@@ -345,5 +389,6 @@ int main(void)
     circuits(text_len);
     shows();
     unfit_lists();
+    trials();
     return nans_kept() && fflush(stdout) == 0 ? EXIT_SUCCESS : EXIT_FAILURE;
 }

@@ -97,6 +97,36 @@ static void view_word(void)
     answer.number = word == 0 ? TABLEAU_SUM_BAD_PLACE : TABLEAU_SUM_DONE;
 }
 
+/* ---- cutoffs tried: as many as there may be, on as many steps */
+
+#define CUTOFFS TABLEAU_SUM_MAX_CUTOFFS
+#define STEPS TABLEAU_SUM_MAX_STEPS
+
+static double cutoffs[CUTOFFS];
+static uint64_t kinds[STEPS];
+static size_t qubits[STEPS];
+static double step_rates[STEPS * TABLEAU_SUM_STEP_RATES];
+static uint64_t places[2 * CUTOFFS * STEPS];
+static size_t cutoffs_len, places_len;
+
+CALL(try_cutoffs, header.size, header.threshold, cutoffs, cutoffs_len, kinds, STEPS, qubits, STEPS, step_rates,
+     STEPS * TABLEAU_SUM_STEP_RATES, store, WORDS, places, places_len)
+
+/* The three channels in turn, on eight qubits one after the other. */
+static void all_steps(void)
+{
+    for (size_t i = 0; i < STEPS; i++) {
+        kinds[i] = i % 3;
+        qubits[i] = i / 3 % 8;
+        for (size_t j = 0; j < TABLEAU_SUM_STEP_RATES; j++)
+            step_rates[i * TABLEAU_SUM_STEP_RATES + j] = rate / 4;
+    }
+    for (size_t i = 0; i < CUTOFFS; i++)
+        cutoffs[i] = i == 0 ? 0 : 0.001 * (double)i;
+    cutoffs_len = CUTOFFS;
+    places_len = sizeof places / sizeof places[0];
+}
+
 /* ---- a list of calls */
 
 #define MOST 16
@@ -378,6 +408,28 @@ static void run_trials(struct call *c)
     attempt(c, "refused with 19", TABLEAU_SUM_DOES_NOT_FIT);
 }
 
+/* With the cutoff 0 a trial finds no room for its branches; with others it goes on, and drops some. */
+static void cutoff_trials(struct call *c)
+{
+    on(&one, 0.5, 0);
+    all_steps();
+    attempt(c, "done", TABLEAU_SUM_DONE);
+    if (places[2 * STEPS - 2] != TABLEAU_SUM_NO_ROOM || places[2 * STEPS * CUTOFFS - 2] != TABLEAU_SUM_DONE)
+        wrong(c, "done", "other trials end");
+    qubits[1] = N;
+    attempt(c, "another qubit in a trial", TABLEAU_SUM_DONE);
+    places_len--;
+    attempt(c, "refused with 8", TABLEAU_SUM_SHORT_OUTPUT);
+    cutoffs[CUTOFFS - 1] = -1;
+    attempt(c, "refused with 2", TABLEAU_SUM_BAD_HEADER);
+    cutoffs_len = 0;
+    attempt(c, "refused with 11", TABLEAU_SUM_BAD_TRIALS);
+    header.size.n = N + 1;
+    attempt(c, "refused with 1", TABLEAU_SUM_BAD_SIZE);
+    kinds[STEPS - 1] = TABLEAU_SUM_STEP_DEPOLARIZE1 + 1;
+    attempt(c, "refused with 19", TABLEAU_SUM_DOES_NOT_FIT);
+}
+
 /* view_word gives no number, and 0 for a word that is not there. */
 static void word_trials(struct call *c)
 {
@@ -390,6 +442,7 @@ static void word_trials(struct call *c)
 static struct call calls[] = {
     {"fresh", fresh, fresh_trials, NULL, 0, 0, ""},
     {"read_sheet", read_sheet, sheet_trials, &paulis, 0, 0, ""},
+    {"try_cutoffs", try_cutoffs, cutoff_trials, NULL, 0, 0, ""},
     {"pauli_error", pauli_error, channel_trials, &paulis, TABLEAU_SUM_BAD_PLACE, 0, ""},
     {"loss_channel", loss_channel, channel_trials, &losses, TABLEAU_SUM_BAD_PLACE, 0, ""},
     {"depolarize1", depolarize1, channel_trials, &paulis, TABLEAU_SUM_BAD_PLACE, 0, ""},

@@ -1,9 +1,10 @@
 use std::fmt;
 
-/// Why a call was refused: document 01's number for it. A refused call changes nothing. The lowest number that applies is given, but the
-/// reader tests [`Error::BadSheet`] first.
+/// Why a call was refused: document 01's number for it, or document 02's. A refused call changes nothing. The lowest number that applies is
+/// given, but the reader tests [`Error::BadSheet`] first, and trials [`Error::BadTrials`] before [`Error::BadHeader`].
 ///
-/// (The library's number 19, of a list of calls that does not fit, is not among them: a [`Circuit`](crate::Circuit) always fits.)
+/// (The library's number 19, of a list of calls or steps that does not fit, is not among them: a [`Circuit`](crate::Circuit) and a
+/// [`Channel`](crate::Channel) always fit.)
 #[derive(Clone, Copy, Debug, PartialEq, Eq, Hash)]
 #[non_exhaustive]
 pub enum Error {
@@ -30,6 +31,8 @@ pub enum Error {
     NoWeight = 9,
     /// 10: A draw is NaN, below 0, or 1 or more.
     BadDraw = 10,
+    /// 11: There are no steps or no cutoffs to be tried, or more than 64 steps or 8 cutoffs.
+    BadTrials = 11,
 }
 
 impl Error {
@@ -45,9 +48,10 @@ impl Error {
         Error::ShortOutput,
         Error::NoWeight,
         Error::BadDraw,
+        Error::BadTrials,
     ];
 
-    /// Document 01's number.
+    /// The document's number.
     pub fn number(self) -> u64 {
         self as u64
     }
@@ -71,6 +75,7 @@ impl fmt::Display for Error {
             Error::ShortOutput => "the output is too short",
             Error::NoWeight => "the weights add up to 0, or there is no entry",
             Error::BadDraw => "the draw is NaN, below 0, or 1 or more",
+            Error::BadTrials => "there are no steps or no cutoffs to be tried, or more than 64 steps or 8 cutoffs",
         })
     }
 }
@@ -82,10 +87,10 @@ mod tests {
     use super::*;
 
     #[test]
-    fn numbers_are_those_of_document_01() {
+    fn numbers_are_those_of_the_documents() {
         let numbers: Vec<u64> = Error::ALL.iter().map(|e| e.number()).collect();
-        assert_eq!(numbers, [1, 2, 3, 4, 5, 6, 7, 8, 9, 10]);
+        assert_eq!(numbers, [1, 2, 3, 4, 5, 6, 7, 8, 9, 10, 11]);
         assert_eq!(Error::from_number(7), Some(Error::BadSheet));
-        assert_eq!([0, 11, u64::MAX].map(Error::from_number), [None; 3]);
+        assert_eq!([0, 12, u64::MAX].map(Error::from_number), [None; 3]);
     }
 }

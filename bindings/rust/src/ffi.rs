@@ -57,6 +57,10 @@ extern "C" {
     pub fn tableau_sum_h(h: Header, store: *mut u64, store_len: usize, q: usize) -> Answer;
     pub fn tableau_sum_s(h: Header, store: *mut u64, store_len: usize, q: usize) -> Answer;
     pub fn tableau_sum_cnot(h: Header, store: *mut u64, store_len: usize, a: usize, b: usize) -> Answer;
+    #[allow(clippy::too_many_arguments)]
+    pub fn tableau_sum_try_cutoffs(size: Size, threshold: f64, cutoffs: *const f64, cutoffs_len: usize, kinds: *const u64, kinds_len: usize,
+                                   qubits: *const usize, qubits_len: usize, rates: *const f64, rates_len: usize, store: *mut u64,
+                                   store_len: usize, out: *mut u64, out_len: usize) -> Answer;
     pub fn tableau_sum_truncate(h: Header, store: *mut u64, store_len: usize) -> Answer;
     pub fn tableau_sum_normalise(h: Header, store: *mut u64, store_len: usize) -> Answer;
     pub fn tableau_sum_table(h: Header, store: *const u64, store_len: usize, out: *mut u64, out_len: usize) -> Answer;

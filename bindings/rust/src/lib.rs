@@ -25,15 +25,16 @@
 //! # Ok::<(), Error>(())
 //! ```
 //!
-//! A [`Circuit`] holds a list of such calls, which [`TableauSum::run`] makes in one call of the library.
+//! A [`Circuit`] holds a list of such calls, which [`TableauSum::run`] makes in one call of the library. [`TableauSum::try_cutoffs`] shows
+//! for several cutoffs how many entries a list of channels leads to.
 //!
 //! # What is promised
 //!
-//! Proved of the library: each call gives exactly what document 01 of the project says, and the page what request 1 of document 02 says (the
-//! only one of its requests that is built), for every input; it ends, stays inside the memory that it is lent, and changes nothing if it is
-//! refused; no list of calls leaves stale keys behind that make a branch miss its equal. The library never panics and never unwinds. It has no
-//! state of its own, so a [`TableauSum`] is [`Send`] and [`Sync`] like the vector that it owns. In a thread with a small stack,
-//! [`STACK_BYTES`] says what a call takes.
+//! Proved of the library: each call gives exactly what document 01 of the project says, the page what request 1 of document 02 says, and
+//! the trials what request 2 says (its other requests are not built), for every input; it ends, stays inside the memory that it is lent,
+//! and changes nothing if it is refused; no list of calls leaves stale keys behind that make a branch miss its equal. The library never panics
+//! and never unwinds. It has no state of its own, so a [`TableauSum`] is [`Send`] and [`Sync`] like the vector that it owns. In a thread with
+//! a small stack, [`STACK_BYTES`] says what a call takes.
 //!
 //! Not proved, but tested: this crate, which lends the library the memory.
 //!
@@ -50,9 +51,11 @@ mod error;
 mod ffi;
 mod size;
 mod sum;
+mod trials;
 
 pub use circuit::{Circuit, Run, Step};
 pub use entry::{Coefficient, Entry, Row};
 pub use error::Error;
 pub use size::{Size, MAX_CAPACITY, MAX_COEFFICIENTS, MAX_QUBITS, STACK_BYTES};
 pub use sum::{Counts, Lost, Outcome, TableauSum};
+pub use trials::{Channel, Refusal, Trial, MAX_CUTOFFS, MAX_STEPS};

@@ -92,7 +92,7 @@ impl TableauSum {
     }
 
     /// With a size outside the limits the store is empty, which the library refuses.
-    fn begin(size: Size, call: impl FnOnce(*mut u64, usize) -> Answer) -> Result<Self, Error> {
+    pub(crate) fn begin(size: Size, call: impl FnOnce(*mut u64, usize) -> Answer) -> Result<Self, Error> {
         let mut store = vec![0; size.store_words().unwrap_or(0)];
         let answer = accepted(call(store.as_mut_ptr(), store.len()))?;
         Ok(TableauSum { header: answer.header, store })

@@ -7,6 +7,7 @@ use passes::Outcome;
 use passes::Pass;
 pub use refused::tell_number;
 pub use refused::tell_run;
+pub use refused::write_number;
 
 pub fn tell_place(name: &[u8], line: u64) {
     printing::say(name);
@@ -93,25 +94,40 @@ fn tell_bad(line: &[u8], fault: Fault, from: usize, to: usize) {
     tell_fault(fault)
 }
 
+// The word that a pass ended at, and what is wrong with it.
+fn tell_at(line: &[u8], pass: Pass, what: &[u8]) {
+    tell_word(line, pass.from, pass.to);
+    printing::say(what);
+}
+
 fn tell_outcome(line: &[u8], pass: Pass) {
     let outcome = pass.outcome;
     match outcome {
         Outcome::Bad(fault) => tell_bad(line, fault, pass.from, pass.to),
-        Outcome::Rates => {
-            tell_word(line, pass.from, pass.to);
-            printing::say(
-                b"a rate is from 0 to 1, and the rates of an instruction add up to 1 at most",
-            )
-        }
+        Outcome::Rates => tell_at(
+            line,
+            pass,
+            b"a rate is from 0 to 1, and the rates of an instruction add up to 1 at most",
+        ),
         Outcome::TooLong => printing::say(b"the line has more than 65535 bytes"),
-        Outcome::TooDeep => {
-            tell_word(line, pass.from, pass.to);
-            printing::say(b"blocks are nested 64 deep at most, and this is the 65th or a later one")
-        }
-        Outcome::NoRepeat => {
-            tell_word(line, pass.from, pass.to);
-            printing::say(b"no REPEAT is open here")
-        }
+        Outcome::TooDeep => tell_at(
+            line,
+            pass,
+            b"blocks are nested 64 deep at most, and this is the 65th or a later one",
+        ),
+        Outcome::NoRepeat => tell_at(line, pass, b"no REPEAT is open here"),
+        Outcome::NoStep => tell_at(
+            line,
+            pass,
+            b"--try-cutoffs takes channels on one qubit only (X_ERROR Y_ERROR Z_ERROR PAULI_CHANNEL_1 DEPOLARIZE1 I_ERROR[loss]), \
+since each trial begins with a fresh sum and has no other steps; instead run the circuit with each --cutoff, and --output trace",
+        ),
+        Outcome::TooManySteps => tell_at(
+            line,
+            pass,
+            b"--try-cutoffs takes 64 steps at most, one for each target in each repetition, and this is the 65th; \
+leave some out, or run the circuit with each --cutoff, and --output trace",
+        ),
         _ => printing::say(b"the run ended"),
     }
     printing::say(b"\n");

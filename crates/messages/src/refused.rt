@@ -2,6 +2,7 @@
 use calls::Operation;
 use calls::Outgrown;
 use circuit::Item;
+use libc::STDERR_FILENO;
 use model::Header;
 use passes::Outcome;
 use passes::Pass;
@@ -9,25 +10,45 @@ use second_pass::Repetition;
 use second_pass::Run;
 use second_pass::STACK_WORDS;
 
-// What a number means, in document 01's words.
-pub fn tell_number(number: u64) {
+// What a number means, in document 01's words, to a descriptor. Whether it was written.
+pub fn write_number(fd: i32, number: u64) -> bool {
     match number {
-        1 => printing::say(
+        1 => io::write_all(
+            fd,
             b"n, K or capacity is outside its limits, or the store's length is not capacity x entry length",
         ),
-        2 => printing::say(
+        2 => io::write_all(
+            fd,
             b"the count is above the capacity, or threshold or cutoff is infinite or below 0",
         ),
-        3 => printing::say(b"a qubit is not below the number of qubits"),
-        4 => printing::say(b"a rate is below 0 or above 1, or the rates' total is above 1"),
-        5 => printing::say(
+        3 => io::write_all(fd, b"a qubit is not below the number of qubits"),
+        4 => io::write_all(
+            fd,
+            b"a rate is below 0 or above 1, or the rates' total is above 1",
+        ),
+        5 => io::write_all(
+            fd,
             b"a listed entry has a weight below 0 or above 1024, or a word that may not be there",
         ),
-        6 => printing::say(b"there would be more entries than --capacity allows before truncating"),
-        8 => printing::say(b"the output has no room"),
-        9 => printing::say(b"normalising would divide by a total of 0, or the list is empty"),
-        _ => printing::say(b"it is no number that this call gives"),
+        6 => io::write_all(
+            fd,
+            b"there would be more entries than --capacity allows before truncating",
+        ),
+        8 => io::write_all(fd, b"the output has no room"),
+        9 => io::write_all(
+            fd,
+            b"normalising would divide by a total of 0, or the list is empty",
+        ),
+        11 => io::write_all(
+            fd,
+            b"there are no steps or no cutoffs, or more than 64 steps or 8 cutoffs",
+        ),
+        _ => io::write_all(fd, b"it is no number that this call gives"),
     }
+}
+
+pub fn tell_number(number: u64) {
+    write_number(STDERR_FILENO, number);
 }
 
 // ---- number 6: by how much the sum outgrew its room, and what to raise

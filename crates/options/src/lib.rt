@@ -47,6 +47,9 @@ fn is_valued(name: &[u8]) -> bool {
     if check::same(name, b"--cutoff") {
         return true;
     }
+    if check::same(name, b"--try-cutoffs") {
+        return true;
+    }
     if check::same(name, b"--capacity") {
         return true;
     }
@@ -471,6 +474,14 @@ fn bound_of(value: &[u8]) -> Bound
     no_bound()
 }
 
+fn say_no_bound(name: &[u8], value: &[u8]) {
+    say_bad(
+        name,
+        value,
+        b"a decimal number of 0 or more, of at most 19 digits,",
+    );
+}
+
 pub fn bound_option(name: &[u8], without: f64) -> Bound {
     let place = place_of(name);
     if place.argument == 0 {
@@ -483,14 +494,114 @@ pub fn bound_option(name: &[u8], without: f64) -> Bound {
     let n = value_of(place, &mut value);
     let b = bound_of(&value[..n]);
     if !b.ok {
-        say_bad(
-            name,
-            &value[..n],
-            b"a decimal number of 0 or more, of at most 19 digits,",
-        );
+        say_no_bound(name, &value[..n]);
     }
     b
 }
+
+// ---- cutoffs that are tried
+
+// How many there are, 0 without the option; their values, and from where to where each one stands in the option's value. `ok`: they can be
+// tried, else it is said why not.
+pub struct Cutoffs {
+    pub ok: bool,
+    pub count: usize,
+    pub values: [f64; 8],
+    pub from: [usize; 8],
+    pub to: [usize; 8],
+}
+
+fn no_cutoffs(ok: bool) -> Cutoffs {
+    Cutoffs {
+        ok,
+        count: 0,
+        values: [0.0f64; 8],
+        from: [0; 8],
+        to: [0; 8],
+    }
+}
+
+// The decimal numbers of a list, with commas between them.
+fn cutoffs_of(list: &[u8]) -> Cutoffs {
+    let mut values = [0.0f64; 8];
+    let mut from: [usize; 8] = [0; 8];
+    let mut to: [usize; 8] = [0; 8];
+    let mut count: usize = 0;
+    let mut at: usize = 0;
+    while count < 8 {
+        let end = bytes::scan::find(list, at, list.len(), b',');
+        let b = bound_of(&list[at..end]);
+        if !b.ok {
+            say_no_bound(b"--try-cutoffs", &list[at..end]);
+            return no_cutoffs(false);
+        }
+        values[count] = b.value;
+        from[count] = at;
+        to[count] = end;
+        count += 1;
+        if end == list.len() {
+            return Cutoffs {
+                ok: true,
+                count,
+                values,
+                from,
+                to,
+            };
+        }
+        at = end + 1;
+    }
+    say_bad(
+        b"--try-cutoffs",
+        list,
+        b"a list of 1 to 8 cutoffs, with commas between them,",
+    );
+    no_cutoffs(false)
+}
+
+// Whether an option that says nothing about trials is left out; else it is said why it has to be.
+fn is_left_out(name: &[u8], why: &[u8]) -> bool {
+    if is_given(name) {
+        printing::say(b"run_circuit: ");
+        printing::say(name);
+        printing::say(b" cannot be given with --try-cutoffs: ");
+        printing::say(why);
+        printing::say(b"\n");
+        return false;
+    }
+    true
+}
+
+fn are_left_out() -> bool {
+    let cutoff = is_left_out(
+        b"--cutoff",
+        b"each trial has a cutoff of its own, from the list",
+    );
+    let lost = is_left_out(
+        b"--max-lost",
+        b"the trials count entries, and what they lose is not told",
+    );
+    let output = is_left_out(
+        b"--output",
+        b"what is printed is the table of the entries after each step",
+    );
+    cutoff && lost && output
+}
+
+pub fn cutoffs_option() -> Cutoffs {
+    let place = place_of(b"--try-cutoffs");
+    if place.argument == 0 {
+        return no_cutoffs(true);
+    }
+    let mut list = io::buffer();
+    let n = value_of(place, &mut list);
+    let c = cutoffs_of(&list[..n]);
+    if are_left_out() {
+        return c;
+    }
+    no_cutoffs(false)
+}
+
+// ---- what is printed
 
 // What is printed; `ok`: it is known.
 pub struct Choice {

@@ -30,6 +30,9 @@ pub enum Outcome {
     TooMuchLost(f64),
     // A line of the trace could not be written.
     Unwritten,
+    // An instruction is no step of a trial; the step is one more than trials have.
+    NoStep,
+    TooManySteps,
 }
 
 // The window and the number of the line that was read last, and how many REPEATs are open; the word that the outcome speaks of, from a place
@@ -145,6 +148,8 @@ pub fn is_going(pass: Pass) -> bool
         Outcome::Refused(_, _, _) => false,
         Outcome::TooMuchLost(_) => false,
         Outcome::Unwritten => false,
+        Outcome::NoStep => false,
+        Outcome::TooManySteps => false,
     }
 }
 

@@ -1,8 +1,8 @@
 // A float of 0 or more as a decimal number of 9 digits, d.dddddddde-dd. It is made by multiplications and divisions by 10 in floats, so its
 // last digit may be off by one.
 use crate::after;
+use crate::put;
 use crate::put_byte;
-use crate::put_left;
 ghost use Prim.Native.Nat.{_≤_};
 
 // A number from 1 to below 10, and the power of ten that it stands beside: 10^power, or 10^-power if `below`.
@@ -137,13 +137,18 @@ fn put_power(row: &mut [u8; 256], from: usize, power: u64, below: bool) -> usize
     crate::put_digits(row, at, power)
 }
 
-// The number in a column, which is 14 wide at least.
-pub fn put_float(row: &mut [u8; 256], from: usize, x: f64) -> usize {
+// The number alone.
+pub fn put_float_alone(row: &mut [u8; 256], from: usize, x: f64) -> usize {
     if 0.0 < x {
         let s = rounded(scaled(x));
         let at = put_digits(row, from, s.digits);
-        let end = put_power(row, at, s.power, s.below);
-        return after(from, end, 14);
+        return put_power(row, at, s.power, s.below);
     }
-    put_left(row, from, b"0.00000000e+00", 14)
+    put(row, from, b"0.00000000e+00")
+}
+
+// .. in a column, which is 14 wide at least.
+pub fn put_float(row: &mut [u8; 256], from: usize, x: f64) -> usize {
+    let end = put_float_alone(row, from, x);
+    after(from, end, 14)
 }

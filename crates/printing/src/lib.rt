@@ -4,6 +4,7 @@ mod floats;
 mod said;
 
 pub use floats::put_float;
+pub use floats::put_float_alone;
 pub use said::say;
 pub use said::say_float;
 pub use said::say_number;
@@ -72,6 +73,24 @@ fn put_right(row: &mut [u8; 256], at: usize, text: &[u8], width: usize) -> usize
     plus(end, 1)
 }
 
+// .. and there the part of another row up to a place.
+pub fn put_part(
+    row: &mut [u8; 256],
+    at: usize,
+    part: &[u8; 256],
+    end: usize,
+    width: usize,
+) -> usize {
+    put_start(row, at, part, end, width)
+}
+
+fn put_start(row: &mut [u8; 256], at: usize, part: &[u8], end: usize, width: usize) -> usize {
+    if end <= part.len() {
+        return put_right(row, at, &part[0..end], width);
+    }
+    put_right(row, at, part, width)
+}
+
 // ---- numbers
 
 pub fn put_digits(row: &mut [u8; 256], at: usize, v: u64) -> usize {
@@ -104,7 +123,8 @@ pub fn write(fd: i32, row: &mut [u8; 256], end: usize) -> bool {
     write_up_to(fd, row, end)
 }
 
-fn write_up_to(fd: i32, row: &[u8; 256], end: usize) -> bool {
+// .. up to a place, as it is.
+pub fn write_up_to(fd: i32, row: &[u8; 256], end: usize) -> bool {
     write_bytes(fd, row, end)
 }
 

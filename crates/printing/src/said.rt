@@ -10,13 +10,11 @@ pub fn say_number(v: u64) {
     io::print_decimal(STDERR_FILENO, v);
 }
 
-// A float as the table shows it, without what fills its column.
+// A float as the table shows it.
 pub fn say_float(x: f64) {
     let mut row = crate::row();
-    let end = crate::put_float(&mut row, 0, x);
-    if 0 < end {
-        crate::write_up_to(STDERR_FILENO, &row, end - 1);
-    }
+    let end = crate::put_float_alone(&mut row, 0, x);
+    crate::write_up_to(STDERR_FILENO, &row, end);
 }
 
 // A byte as it is shown: those that do not print are question marks.

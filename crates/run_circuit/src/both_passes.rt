@@ -1,21 +1,24 @@
-// Both passes over a circuit: its lines are looked at, and then run from a fresh sum on.
+// Both passes over a circuit: its lines are looked at, and then run from a fresh sum on, or tried with several cutoffs.
 use crate::outputs;
+use crate::trying;
 use input::Source;
 use libc::STDERR_FILENO;
 use model::Header;
 use model::Size;
+use options::Cutoffs;
 use options::Output;
 use second_pass::STACK_WORDS;
 use second_pass::Wanted;
 ghost use Rattle.model.specs.Calls.{held};
 ghost use Rattle.model.specs.Known.{Checked};
 
-// What the options say. `qubits` 0: as many as the circuit needs.
+// What the options say. `qubits` 0: as many as the circuit needs. `cutoffs` of which there are none: the circuit is run.
 pub struct Setup {
     pub qubits: usize,
     pub capacity: usize,
     pub threshold: f64,
     pub cutoff: f64,
+    pub cutoffs: Cutoffs,
     pub most_lost: f64,
     pub output: Output,
     pub quiet: bool,
@@ -131,6 +134,14 @@ fn may_run(h: Header, s: Setup) -> bool {
     true
 }
 
+fn size_of(n: usize, s: Setup) -> Size {
+    Size {
+        n,
+        k: 1,
+        capacity: s.capacity,
+    }
+}
+
 // Words of the largest store: 256 entries of 64 qubits, 8 + 6 * 64 words each.
 fn store_room() -> [u64; 100_352] {
     [0u64; 100_352]
@@ -146,12 +157,7 @@ fn run_fresh(
     n: usize,
     s: Setup,
 ) -> bool {
-    let size = Size {
-        n,
-        k: 1,
-        capacity: s.capacity,
-    };
-    let a = fresh::fresh(size, s.threshold, s.cutoff, store);
+    let a = fresh::fresh(size_of(n, s), s.threshold, s.cutoff, store);
     if a.number != 0 {
         outputs::tell_refused(b"the fresh sum", a.number);
         return false;
@@ -168,6 +174,21 @@ fn run_in_stores(source: Source, name: &[u8], bytes: &mut [u8], n: usize, s: Set
     let mut scratch = store_room();
     let end = calls::words(n, s.capacity);
     run_fresh(source, name, bytes, &mut store[0..end], &mut scratch, n, s)
+}
+
+// .. or tried there.
+fn try_in_store(source: Source, name: &[u8], bytes: &mut [u8], n: usize, s: Setup) -> bool {
+    let mut store = store_room();
+    let end = calls::words(n, s.capacity);
+    trying::run(
+        source,
+        name,
+        bytes,
+        &mut store[0..end],
+        size_of(n, s),
+        s.threshold,
+        s.cutoffs,
+    )
 }
 
 // ---- both
@@ -188,24 +209,29 @@ fn may_be_empty(name: &[u8], s: Setup) -> bool {
         )
 }
 
+// How many qubits the options say, or otherwise.
+fn qubits_of(s: Setup, otherwise: usize) -> usize {
+    if s.qubits != 0 {
+        return s.qubits;
+    }
+    otherwise
+}
+
 // Whether all that was asked for is written; else it was said why not.
 pub fn run(source: Source, name: &[u8], bytes: &mut [u8], s: Setup) -> bool {
-    let mut limit = 64;
-    if s.qubits != 0 {
-        limit = s.qubits;
-    }
-    let l = look(source, name, bytes, limit);
+    let l = look(source, name, bytes, qubits_of(s, 64));
     if !l.ok {
         return false;
+    }
+    let cutoffs = s.cutoffs;
+    let n = qubits_of(s, l.qubits);
+    if cutoffs.count != 0 {
+        return try_in_store(source, name, bytes, n, s);
     }
     if l.qubits == 0 {
         if !may_be_empty(name, s) {
             return false;
         }
-    }
-    let mut n = l.qubits;
-    if s.qubits != 0 {
-        n = s.qubits;
     }
     run_in_stores(source, name, bytes, n, s)
 }

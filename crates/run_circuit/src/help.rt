@@ -14,6 +14,12 @@ FILE missing or `-`: standard input.\n\
 --cutoff C      branches and entries of no more weight than this are dropped; without it, 0\n  \
 --capacity N    how many entries there may be, 1 to 256; without it, 256\n  \
 --max-lost X    it is an error if more than this fraction of the initial weight is lost\n  \
+--try-cutoffs C1,C2,..\n                  \
+1 to 8 cutoffs are tried instead of a run: a table has the entries after each step\n                  \
+with each cutoff, or `!` and the number from where a trial was refused (status 0).\n                  \
+A trial begins with a fresh sum, and its 1 to 64 steps are the targets of X_ERROR,\n                  \
+Y_ERROR, Z_ERROR, PAULI_CHANNEL_1, DEPOLARIZE1 and I_ERROR[loss]: the circuit may\n                  \
+have no other calls. Not with --cutoff, --max-lost or --output\n  \
 --output WHAT   sheet (the weight sheet; also without this option), page (the weight page: a line\n                  \
 for each entry), table (the sampling table) or trace (a line for each call)\n  \
 --tmpdir DIR    where the circuit is copied to before it is run; without it, /tmp\n                  \

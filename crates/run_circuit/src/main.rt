@@ -1,8 +1,11 @@
-// Runs a circuit, in a subset of Stim's circuit language, and prints the weight sheet, the weight page, the sampling table or a trace.
+// Runs a circuit, in a subset of Stim's circuit language, and prints the weight sheet, the weight page, the sampling table or a trace; or tries
+// cutoffs on it, and prints how many entries each leads to.
 mod both_passes;
 mod descriptors;
+mod entries_table;
 mod help;
 mod outputs;
+mod trying;
 
 use both_passes::Setup;
 ghost use Prim.Native.Nat.{_≤_};
@@ -90,6 +93,7 @@ fn run_options(place: usize) -> Status {
     );
     let threshold = options::bound_option(b"--threshold", 0.00000001);
     let cutoff = options::bound_option(b"--cutoff", 0.0);
+    let cutoffs = options::cutoffs_option();
     let most_lost = options::bound_option(b"--max-lost", 2.0);
     let choice = options::output_option();
     let output = choice.output;
@@ -98,11 +102,13 @@ fn run_options(place: usize) -> Status {
         capacity: capacity.value,
         threshold: threshold.value,
         cutoff: cutoff.value,
+        cutoffs,
         most_lost: most_lost.value,
         output,
         quiet: options::is_given(b"--quiet"),
     };
-    if qubits.ok && capacity.ok && threshold.ok && cutoff.ok && most_lost.ok && choice.ok {
+    let sound = qubits.ok && capacity.ok && threshold.ok && cutoff.ok && cutoffs.ok;
+    if sound && most_lost.ok && choice.ok {
         return run_named(place, setup);
     }
     Status::Usage

@@ -52,6 +52,8 @@ going (Outcome.Unclosed at) e = absurd (true≢false (sym e))
 going (Outcome.Refused number p q) e = absurd (true≢false (sym e))
 going (Outcome.TooMuchLost lost) e = absurd (true≢false (sym e))
 going Outcome.Unwritten e = absurd (true≢false (sym e))
+going Outcome.NoStep e = absurd (true≢false (sym e))
+going Outcome.TooManySteps e = absurd (true≢false (sym e))
 
 -- a run that has the header, and knows, what a call left it with
 module _ (c : Call) (k : Bool) (x : Lent) (a : Answer) (w : List ℕ) (s : Stepped c k x a w) where

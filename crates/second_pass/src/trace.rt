@@ -25,8 +25,8 @@ fn put_tag(row: &mut [u8; 256], at: usize, act: Act) -> usize {
     }
 }
 
-// The instruction as the line has it.
-fn put_name(row: &mut [u8; 256], at: usize, line: &[u8], l: Line, act: Act) -> usize {
+// The instruction as the line has it, with its tag.
+pub fn put_name(row: &mut [u8; 256], at: usize, line: &[u8], l: Line, act: Act) -> usize {
     let from = l.from;
     let to = l.to;
     if from <= to {

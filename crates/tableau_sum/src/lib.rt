@@ -1,4 +1,4 @@
-// The calls of document 01, and the page of document 02, for programs in C and Rust, one by one or a list of them at once: what
+// The calls of document 01, and the page and the trials of document 02, for programs in C and Rust, one by one or a list of them at once: what
 // `rt staticlib tableau_sum` puts into libtableau_sum.a. Each function makes one call of another crate and promises what that promises. A slice
 // is passed as a pointer and a length, the structs as C lays them out; a call takes its header and store first, then qubits, then rates. After
 // each call, the numbers it can give besides 0.
@@ -10,12 +10,14 @@ use model::Size;
 use runs::Ran;
 use runs::Room;
 ghost use mathlib.Core.Path.{_≡_};
-ghost use lib.ListN.{length, getD};
+ghost use lib.ListN.{length, getD, take};
 ghost use Rattle.model.specs.Channels.{one, two};
 ghost use Rattle.model.specs.Channels as Channels;
 ghost use Rattle.model.specs.Calls as Calls;
 ghost use Rattle.model.specs.Calls.{held, gave, step, start, overlaid};
 ghost use Rattle.runs.specs.Runs.{came, ranOn};
+ghost use Rattle.model.specs.Trials.{planOf, TrialsPromise};
+ghost use Rattle.trials.specs.Steps.{channelsIn, triedFrom};
 
 // ---- a sum begins
 
@@ -233,4 +235,28 @@ pub extern "C" fn tableau_sum_run(
     ensures { λ r. ⌜ came r (now (store .exit)) (now (log .exit)) (now (text .exit)) ≡ ranOn room stop (now (calls .entry)) (held h (now (store .entry))) (now (log .entry)) (now (text .entry)) ⌝ }
 {
     runs::run(h, store, calls, log, text, room, stop)
+}
+
+// ---- cutoffs before a campaign
+
+// For each cutoff, from a fresh sum on, the steps one by one: kind 0, X, Y and Z with three rates; 1, loss; 2, depolarising, each with the first of
+// its three. Two words of `out` for each, cutoff after cutoff: its number, and the entries after it. The length counts words, and the last
+// trial's sum is left. 1, 11, 2, 8; 19.
+#[no_mangle]
+pub extern "C" fn tableau_sum_try_cutoffs(
+    size: Size,
+    threshold: f64,
+    cutoffs: &[f64],
+    kinds: &[u64],
+    qubits: &[usize],
+    rates: &[f64],
+    store: &mut [u64],
+    out: &mut [u64],
+) -> Answer
+    ensures answer { λ r. ⌜ r ≡ triedFrom size threshold (now (cutoffs .entry)) (now (kinds .entry)) (now (qubits .entry)) (now (rates .entry)) (length (now (out .entry))) (now (store .entry)) .answer ⌝ }
+    ensures words { λ r. ⌜ now (store .exit) ≡ triedFrom size threshold (now (cutoffs .entry)) (now (kinds .entry)) (now (qubits .entry)) (now (rates .entry)) (length (now (out .entry))) (now (store .entry)) .words ⌝ }
+    ensures output { λ r. ⌜ now (out .exit) ≡ overlaid (triedFrom size threshold (now (cutoffs .entry)) (now (kinds .entry)) (now (qubits .entry)) (now (rates .entry)) (length (now (out .entry))) (now (store .entry)) .output) (now (out .entry)) ⌝ }
+    ensures promise { λ r. ⌜ (r .number ≡ 0 → TrialsPromise (planOf size threshold (now (cutoffs .entry)) (channelsIn (now (kinds .entry)) (now (rates .entry))) (now (qubits .entry)) (length (now (kinds .entry)))) (now (store .entry)) (held (r .header) (now (store .exit))) (take (r .length) (now (out .exit)))) ⌝ }
+{
+    trials::try_steps(size, threshold, cutoffs, kinds, qubits, rates, store, out)
 }

@@ -7,7 +7,7 @@
 //! optimised away. The Rust has a quick hash in place of document 01's word key. Beside each row stands what our check of the whole store
 //! takes, which the Rust does not make: a truncate of the same sum from which nothing goes. The published code writes no page; beside ours
 //! stands one over its entries, by 128-bit numbers and `write!`. At the end each kind of row is held to its
-//! goal, and the check to the speed at which a plain loop reads the same words. Rows of lists follow: turns.rs.
+//! goal, and the check to the speed at which a plain loop reads the same words. Rows of lists follow (turns.rs), and of trials (trials.rs).
 
 mod circuit;
 mod goals;
@@ -15,6 +15,7 @@ mod list_goals;
 mod lists;
 mod sums;
 mod timing;
+mod trials;
 mod turns;
 
 use oracle::{Call, Published, Sum, entry_len};
@@ -277,4 +278,5 @@ fn main() {
     );
     calls(span, &name);
     turns::time(span, &name);
+    trials::time(span, &name);
 }

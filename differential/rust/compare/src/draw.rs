@@ -55,7 +55,7 @@ fn threshold(d: &mut Draw) -> f64 {
     d.one_of(&[0.5, 0.5, 0.5, 1e-8, 2.0, 0.0, -0.0, LEAST, 1e-200, 1.5717277847026288e-162, 1e153, 1e200, f64::MAX])
 }
 
-fn cutoff(d: &mut Draw) -> f64 {
+pub fn cutoff(d: &mut Draw) -> f64 {
     d.one_of(&[0.0, 0.0, 0.0, 0.0, -0.0, LEAST, 1e-12, 0.01, 0.125, 0.25, 0.5, 1.0, 3.0, f64::MAX])
 }
 

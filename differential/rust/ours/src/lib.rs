@@ -1,6 +1,7 @@
 //! Our side: the proved calls of libtableau_sum.a. crates/tableau_sum says what each does.
 
 pub mod list;
+pub mod trials;
 
 use oracle::{Call, Sum};
 

@@ -15,6 +15,9 @@ left-checked : (l : Left) (b : Start) (w : List ℕ) → l ≡ start b w → l .
 left-checked l b w e z =
     subst (λ (l : Left). Checked (next l)) (sym e) (start-checked b w (sym (ap (λ (l : Left). l .answer .number) e) ∙ z))
 
+size-of-requires : tie.Need-size-of-requires
+size-of-requires c κs = search needs
+
 fresh-requires : tie.Need-fresh-requires
 fresh-requires c κs = search needs
 
@@ -58,6 +61,7 @@ pub run-fresh-spec : {M : Type 1} → statement M
 run-fresh-spec =
     tie.close
     (tie.spec
+    size-of-requires
     fresh-requires
     slice-aggregate-tell-refused
     tell-refused-requires
