@@ -3,9 +3,9 @@
     python3 -B differential/mutated.py [COUNT [SEED]]     20000 and 1, if they are not named
 
 The circuits of examples/, the bad ones too, and a few made here are taken as they are, and then mutated COUNT times. A bad line is compared
-by its number, a refused call by its line and number, an instruction that no trial has by its line; a circuit that makes many calls is passed over. A difference is told by the
-smallest circuit that was found to show it, which is kept in target/mutated.stim, and ends the run with status 1. RUN_CIRCUIT can name
-another program than target/bin/run_circuit.
+by its number, a refused call by its line and number, an instruction that no trial has by its line; a circuit that makes many calls is passed
+over. A difference is told by the smallest circuit that was found to show it, which is kept in target/mutated.stim, and ends the run with
+status 1. RUN_CIRCUIT can name another program than target/bin/run_circuit.
 """
 
 import itertools
@@ -160,13 +160,16 @@ def options_for(chance):
     return options
 
 
+NO_STEPS = re.compile(rb"[ \t]*(H|S|CX|CNOT|I|DEPOLARIZE2|PAULI_CHANNEL_2)\b", re.IGNORECASE)
+
+
 def channels_alone(data):
-    """Those lines of a circuit that no trial refuses for their instruction."""
-    return b"\n".join(line for line in data.split(b"\n") if not re.match(rb"[ \t]*(H|S|CX|CNOT|I|DEPOLARIZE2|PAULI_CHANNEL_2)\b(?!_)", line, re.IGNORECASE))
+    """The lines of a circuit that no trial refuses for their instruction."""
+    return b"\n".join(line for line in data.split(b"\n") if not NO_STEPS.match(line))
 
 
-# ---- both sides: a sheet, a table of trials and what ended them, bad lines and whether there are more, a refused call, an instruction that no
-# trial has, no step, or no qubits
+# ---- both sides: a sheet, a table of trials and what ended them, bad lines and whether there are more, a refused call, an instruction that
+# no trial has, no step, or no qubits
 
 
 def tried(looked, options):
@@ -204,7 +207,7 @@ ENDED = re.compile(r"# cutoff (.*): step (\d+) \(line (\d+), qubit (\d+)\) was r
 
 def table(text):
     """The rows, as circuits.py has them, and what ended trials."""
-    rows = [[*map(int, row[:2]), row[2], int(row[3]), *(cell if "!" in cell else int(cell) for cell in row[4:])] for row in circuits.numbers(text)]
+    rows = [[int(word) if word.isdigit() else word for word in row] for row in circuits.numbers(text)]
     return rows, [(cutoff, *map(int, others)) for cutoff, *others in ENDED.findall(text)]
 
 
