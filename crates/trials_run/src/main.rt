@@ -1,7 +1,7 @@
 // Cutoffs tried on channel steps, in cases from standard input (trials::try_cutoffs); and the same calls made one by one, fresh::fresh and
 // noise::channel, on a second store. Of each case a line: its place, the answer's numbers, the header; how many words of the output
-// behind the places are not as they were lent, and how many of the store behind the entries are not 0; how many words of the header, the
-// output and the store are not those that the calls leave one by one. Then the places, a line for each cutoff, and all words of the
+// behind the places are not as they were lent, and how many of the store behind the entries are not 0; how many words of the output,
+// the store and the header are not those that the calls leave one by one. Then the places, a line for each cutoff, and all words of the
 // entries, a line each. Of a refused call: how many words of the output and of the store are not as they were lent.
 // differential/trials_run.py has the cases, and makes both the input and what is to come out.
 use libc::STDIN_FILENO;
@@ -12,7 +12,7 @@ use model::Size;
 use test_support::CALL_WORDS;
 use test_support::MOST_CALLS;
 
-// A case is an item: n, K, capacity, threshold, how many words of the store and of the output are lent, how many steps, how many cutoffs,
+// A case is given as an item: n, K, capacity, threshold, how many words of the store and of the output are lent, how many steps, how many cutoffs,
 // and these, at most 9. Its steps follow as calls, at most 65.
 const STEPS_WORDS: usize = CALL_WORDS * (MOST_CALLS + 1);
 
@@ -25,20 +25,19 @@ const LENT: u64 = 0x5555_5555_5555_5555;
 
 // ---- a case
 
-fn size_in(case: [u64; 18]) -> Size {
-    Size {
-        n: case[1] as usize,
-        k: case[2] as usize,
-        capacity: case[3] as usize,
-    }
+// What is tried, but for the cutoffs and the channels and qubits of the steps, of which there are `count`.
+struct Case {
+    size: Size,
+    threshold: f64,
+    count: usize,
 }
 
 // All nine, whether they count or not.
-fn cutoffs_in(case: [u64; 18]) -> [f64; 9] {
+fn cutoffs_in(item: [u64; 18]) -> [f64; 9] {
     let mut cutoffs = [0.0f64; 9];
     let mut i: usize = 0;
     while i < 9 {
-        cutoffs[i] = words::float_of(case[9 + i]);
+        cutoffs[i] = words::float_of(item[9 + i]);
         i += 1;
     }
     cutoffs
@@ -96,6 +95,18 @@ fn qubits_in(calls: &[u64]) -> [usize; 64] {
     qubits
 }
 
+fn case_of(item: [u64; 18]) -> Case {
+    Case {
+        size: Size {
+            n: item[1] as usize,
+            k: item[2] as usize,
+            capacity: item[3] as usize,
+        },
+        threshold: words::float_of(item[4]),
+        count: item[7] as usize,
+    }
+}
+
 // ---- the calls one by one
 
 // The call of a step, unless one before it was refused.
@@ -151,28 +162,24 @@ fn make_steps(
 
 // A trial: the fresh call and the steps.
 fn one_trial(
-    size: Size,
-    threshold: f64,
+    case: Case,
     cutoff: f64,
     channels: [Channel; 64],
     qubits: [usize; 64],
-    count: usize,
     store: &mut [u64],
     out: &mut [u64],
     from: usize,
 ) -> Header {
-    let begun = fresh::fresh(size, threshold, cutoff, store);
-    make_steps(begun, store, channels, qubits, count, out, from)
+    let begun = fresh::fresh(case.size, case.threshold, cutoff, store);
+    make_steps(begun, store, channels, qubits, case.count, out, from)
 }
 
 // .. for each cutoff, in one store. The header is that of the last sum.
 fn one_by_one(
-    size: Size,
-    threshold: f64,
+    case: Case,
     cutoffs: &[f64],
     channels: [Channel; 64],
     qubits: [usize; 64],
-    count: usize,
     store: &mut [u64],
     out: &mut [u64],
 ) -> Header {
@@ -183,18 +190,8 @@ fn one_by_one(
         if cutoffs.len() <= i {
             return header;
         }
-        header = one_trial(
-            size,
-            threshold,
-            cutoffs[i],
-            channels,
-            qubits,
-            count,
-            store,
-            out,
-            from,
-        );
-        from = after_places(from, count);
+        header = one_trial(case, cutoffs[i], channels, qubits, store, out, from);
+        from = after_places(from, case.count);
         i += 1;
     }
     header
@@ -301,30 +298,11 @@ fn tell_words(a: Answer, count: usize, store: &[u64], out: &[u64]) {
     test_support::lines(store, listed_words(h, len as u64), len);
 }
 
-// How many words of two headers, outputs and stores are not the same.
-fn tell_apart(
-    h: Header,
-    store: &[u64],
-    out: &[u64],
-    other: Header,
-    other_store: &[u64],
-    other_out: &[u64],
-) {
-    let words = header_words(h);
-    let other_words = header_words(other);
-    test_support::text(b", one by one");
-    test_support::number(differing(&words, &other_words));
-    test_support::number(differing(out, other_out));
-    test_support::number(differing(store, other_store));
-    test_support::text(b"\n");
-}
-
 // ---- the cases
 
-// What was left, beside what the calls leave one by one in another store and output.
+// The calls one by one in another store and output: how many words of these are not as they were left. The header that they leave.
 fn compare(
-    h: Header,
-    case: [u64; 18],
+    case: Case,
     cutoffs: &[f64],
     channels: [Channel; 64],
     qubits: [usize; 64],
@@ -332,24 +310,17 @@ fn compare(
     out: &[u64],
     other_store: &mut [u64],
     other_out: &mut [u64],
-) {
-    let other = one_by_one(
-        size_in(case),
-        words::float_of(case[4]),
-        cutoffs,
-        channels,
-        qubits,
-        case[7] as usize,
-        other_store,
-        other_out,
-    );
-    tell_apart(h, store, out, other, other_store, other_out);
+) -> Header {
+    let other = one_by_one(case, cutoffs, channels, qubits, other_store, other_out);
+    test_support::number(differing(out, other_out));
+    test_support::number(differing(store, other_store));
+    other
 }
 
-// .. of the same lengths.
-fn compare_lent(
+// .. of the same lengths; and how many words of the headers.
+fn compare_all(
     h: Header,
-    case: [u64; 18],
+    case: Case,
     cutoffs: &[f64],
     channels: [Channel; 64],
     qubits: [usize; 64],
@@ -360,44 +331,43 @@ fn compare_lent(
     let mut other_out = [LENT; OUTPUT_WORDS];
     let len = store.len();
     let room = out.len();
-    if STORE_WORDS < len {
-        return;
+    test_support::text(b", one by one");
+    if len <= STORE_WORDS {
+        if room <= OUTPUT_WORDS {
+            let other = compare(
+                case,
+                cutoffs,
+                channels,
+                qubits,
+                store,
+                out,
+                &mut other_store[0..len],
+                &mut other_out[0..room],
+            );
+            let words = header_words(h);
+            let other_words = header_words(other);
+            test_support::number(differing(&words, &other_words));
+        }
     }
-    if OUTPUT_WORDS < room {
-        return;
-    }
-    compare(
-        h,
-        case,
-        cutoffs,
-        channels,
-        qubits,
-        store,
-        out,
-        &mut other_store[0..len],
-        &mut other_out[0..room],
-    );
+    test_support::text(b"\n");
 }
 
 fn run_case(
     place: u64,
-    case: [u64; 18],
+    case: Case,
     cutoffs: &[f64],
     channels: [Channel; 64],
     qubits: [usize; 64],
     store: &mut [u64],
     out: &mut [u64],
 ) {
-    let size = size_in(case);
-    let threshold = words::float_of(case[4]);
-    let count = case[7] as usize;
     let a = trials::try_cutoffs(
-        size,
-        threshold,
+        case.size,
+        case.threshold,
         cutoffs,
         channels,
         qubits,
-        count,
+        case.count,
         store,
         out,
     );
@@ -407,43 +377,40 @@ fn run_case(
         return;
     }
     tell_behind(a, store, out);
-    compare_lent(a.header, case, cutoffs, channels, qubits, store, out);
-    tell_words(a, count, store, out);
+    compare_all(a.header, case, cutoffs, channels, qubits, store, out);
+    tell_words(a, case.count, store, out);
 }
 
 // With the words that are lent.
-fn lend(place: u64, case: [u64; 18], calls: &[u64]) {
+fn lend(place: u64, item: [u64; 18], calls: &[u64]) {
     let mut store = [LENT; STORE_WORDS];
     let mut out = [LENT; OUTPUT_WORDS];
-    let cutoffs = cutoffs_in(case);
-    let channels = channels_in(calls);
-    let qubits = qubits_in(calls);
-    let len = case[5] as usize;
-    let room = case[6] as usize;
-    let tried = case[8] as usize;
-    if STORE_WORDS < len {
-        return;
+    let cutoffs = cutoffs_in(item);
+    let len = item[5] as usize;
+    let room = item[6] as usize;
+    let tried = item[8] as usize;
+    if len <= STORE_WORDS {
+        if room <= OUTPUT_WORDS {
+            if tried <= 9 {
+                run_case(
+                    place,
+                    case_of(item),
+                    &cutoffs[0..tried],
+                    channels_in(calls),
+                    qubits_in(calls),
+                    &mut store[0..len],
+                    &mut out[0..room],
+                );
+                return;
+            }
+        }
     }
-    if OUTPUT_WORDS < room {
-        return;
-    }
-    if 9 < tried {
-        return;
-    }
-    run_case(
-        place,
-        case,
-        &cutoffs[0..tried],
-        channels,
-        qubits,
-        &mut store[0..len],
-        &mut out[0..room],
-    );
+    test_support::text(b"a case has no room\n");
 }
 
 // The cases up to the end of what is given.
 fn run_given(given: &[u8]) {
-    let mut case = [0u64; 18];
+    let mut item = [0u64; 18];
     let mut calls = [0u64; STEPS_WORDS];
     let mut at = 0;
     let mut i: u64 = 0;
@@ -452,10 +419,10 @@ fn run_given(given: &[u8]) {
         if given.len() <= at {
             return;
         }
-        at = test_support::read_item(given, at, &mut case);
-        at = test_support::read_calls(given, at, case[7] as usize, &mut calls);
+        at = test_support::read_item(given, at, &mut item);
+        at = test_support::read_calls(given, at, item[7] as usize, &mut calls);
         i += 1;
-        lend(i, case, &calls);
+        lend(i, item, &calls);
     }
 }
 

@@ -7,10 +7,10 @@ use Rattle.trials_run.proofs.one_by_one.Statement.{statement}
 use Rattle.trials_run.proofs.one_by_one.Tie as tie
 
 abbrev Inv-loop : tie.InvT-loop
-Inv-loop size threshold cutoffs channels qubits count store₀ out₀ header₀ from₀ i₀ store out header from i = (i ≤ 8) × (length store ≡ length store₀) × (length out ≡ length out₀)
+Inv-loop case cutoffs channels qubits store₀ out₀ header₀ from₀ i₀ store out header from i = (i ≤ 8) × (length store ≡ length store₀) × (length out ≡ length out₀)
 
 abbrev μ-loop : tie.MeasureT-loop
-μ-loop size threshold cutoffs channels qubits count store₀ out₀ header₀ from₀ i₀ store out header from i = 8 - i
+μ-loop case cutoffs channels qubits store₀ out₀ header₀ from₀ i₀ store out header from i = 8 - i
 
 zero-header-requires : tie.Need-zero-header-requires Inv-loop μ-loop
 zero-header-requires c κs = search needs
