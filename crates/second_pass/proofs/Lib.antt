@@ -1,2 +1,2 @@
 pub mod Lines
-mod Whole
+pub mod Whole

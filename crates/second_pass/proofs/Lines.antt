@@ -1,7 +1,7 @@
--- Laws of calls made one after the other, for the loops over targets and lines. Assumes nothing.
+-- Laws of calls made one after the other, for the loop over targets and for lines. Assumes nothing.
 use Prim.Native.Nat.{ℕ}
-use mathlib.Core.Path.{_≡_, refl, sym, ap, subst, _∙_}
-use mathlib.Core.Bool.{Bool, true, false, true≢false}
+use mathlib.Core.Path.{_≡_, sym, ap, subst, _∙_}
+use mathlib.Core.Bool.{Bool}
 use mathlib.Core.List.{List, [], _∷_, map}
 use lib.Ieee.{Float}
 use Rattle.model.specs.Calls.{Call, Lent, Left, held, step}
@@ -9,8 +9,7 @@ use Rattle.model.specs.Known.{Known, knownAfter, Stepped}
 use Rattle.model.specs.Demand3.{next}
 use Rattle.model.specs.declared.Answer.{Answer}
 use Rattle.model.specs.declared.Header.{Header}
-use Rattle.input.specs.declared.Found.{Found}
-use Rattle.passes.specs.Going.{goes}
+use Rattle.passes.specs.Turns.{Stands}
 use Rattle.passes.specs.declared.Outcome.{Outcome}
 use Rattle.passes.specs.declared.Outcome.the-variants as Outcome
 use Rattle.circuit.specs.Names.{takesPairs}
@@ -24,36 +23,12 @@ use Rattle.circuit.specs.declared.lines.Target.{Target}
 use Rattle.circuit.proofs.TargetLists.{targets-end, targets-next}
 use Rattle.calls.specs.Instructions.{callOf}
 use Rattle.second_pass.specs.declared.second.Run.{Run}
-use Rattle.second_pass.specs.Lines.{callsOf, callsFor, lineCalls, After, Made, all-made, goes-on, ends, Stands, Ran, instruction, other, LineRan, Unread, Turn, no-line, Next, Passed, begun, then}
+use Rattle.second_pass.specs.Lines.{callsOf, callsFor, lineCalls, After, Made, all-made, goes-on, ends, Ran, instruction, other, LineRan}
 
 -- ---- one call
 
 pub known-as : (j k : Bool) (g h : Header) (w : List ℕ) → k ≡ j → h ≡ g → Known j (held g w) → Known k (held h w)
 known-as j k g h w e f b = subst (λ (k : Bool). Known k (held h w)) (sym e) (subst (λ (h : Header). Known j (held h w)) (sym f) b)
-
--- an outcome that ends a pass is none with which it goes on
-pub not-going : (o : Outcome) → goes o ≡ false → o ≡ Outcome.Going → ⊥
-unfolding goes
-not-going o f e = true≢false (sym (ap goes e) ∙ f)
-
--- .. and the other way round
-pub going : (o : Outcome) → goes o ≡ true → o ≡ Outcome.Going
-unfolding goes
-going Outcome.Going e = refl
-going Outcome.Done e = absurd (true≢false (sym e))
-going (Outcome.Bad f) e = absurd (true≢false (sym e))
-going Outcome.Rates e = absurd (true≢false (sym e))
-going Outcome.TooLong e = absurd (true≢false (sym e))
-going Outcome.Failed e = absurd (true≢false (sym e))
-going Outcome.Cut e = absurd (true≢false (sym e))
-going Outcome.TooDeep e = absurd (true≢false (sym e))
-going Outcome.NoRepeat e = absurd (true≢false (sym e))
-going (Outcome.Unclosed at) e = absurd (true≢false (sym e))
-going (Outcome.Refused number p q) e = absurd (true≢false (sym e))
-going (Outcome.TooMuchLost lost) e = absurd (true≢false (sym e))
-going Outcome.Unwritten e = absurd (true≢false (sym e))
-going Outcome.NoStep e = absurd (true≢false (sym e))
-going Outcome.TooManySteps e = absurd (true≢false (sym e))
 
 -- a run that has the header, and knows, what a call left it with
 module _ (c : Call) (k : Bool) (x : Lent) (a : Answer) (w : List ℕ) (s : Stepped c k x a w) where
@@ -67,7 +42,7 @@ module _ (c : Call) (k : Bool) (x : Lent) (a : Answer) (w : List ℕ) (s : Stepp
     pub call-known : Known (r .known) (held (r .header) w)
     call-known = known-as (knownAfter k (a .number)) (r .known) (a .header) (r .header) w f e (s .after)
 
--- ---- no line, or one that calls nothing
+-- ---- a line that calls nothing
 
 -- a run with the same header that knows the same
 module _ (r s : Run) (w : List ℕ) (e : s .header ≡ r .header) (f : s .known ≡ r .known) where
@@ -76,10 +51,6 @@ module _ (r s : Run) (w : List ℕ) (e : s .header ≡ r .header) (f : s .known 
 
   pub same-known : Known (r .known) (held (r .header) w) → Known (s .known) (held (s .header) w)
   same-known k = known-as (r .known) (s .known) (r .header) (s .header) w f e k
-
-pub nothing-read : {text : List ℕ} (x y : Lent) {f g : Found} {o p : Outcome} → y ≡ x → g ≡ f → p ≡ o → Unread f o → Turn g text x y p
-nothing-read {text} x y {f = f} {g = g} {o = o} {p = p} same e h u =
-    subst (λ (z : Lent). Turn g text x z p) (sym same) (no-line (subst (λ (g : Found). Unread g p) (sym e) (subst (Unread f) (sym h) u)))
 
 -- a line that was read as l, and what that asks for
 module _ (text : List ℕ) (l : Line) (e : l ≡ lineOf text) {i : Item} (asks : l .item ≡ i) where
@@ -104,11 +75,11 @@ module _ (text : List ℕ) (l : Line) (e : l ≡ lineOf text) {i : Item} (asks :
 -- ---- the calls of an instruction
 
 module _ (act : Act) (rates : List Float) (text : List ℕ) (at : ℕ) (t : Target) (e : t ≡ targetAt (takesPairs act) text at) where
-  calls-end : ((p q : ℕ) → t .seen ≡ At p q → ⊥) → callsOf act rates text at ≡ []
+  pub calls-end : ((p q : ℕ) → t .seen ≡ At p q → ⊥) → callsOf act rates text at ≡ []
   unfolding callsOf
   calls-end h = ap (map (λ (t : Pair). callOf act rates (t .p) (t .q))) (targets-end (takesPairs act) text at t e h)
 
-  calls-next : (p q : ℕ) → t .seen ≡ At p q → callsOf act rates text at ≡ callOf act rates p q ∷ callsOf act rates text (t .to)
+  pub calls-next : (p q : ℕ) → t .seen ≡ At p q → callsOf act rates text at ≡ callOf act rates p q ∷ callsOf act rates text (t .to)
   unfolding callsOf
   calls-next p q s = ap (map (λ (t : Pair). callOf act rates (t .p) (t .q))) (targets-next (takesPairs act) text at t e p q s)
 
@@ -132,11 +103,3 @@ module _ (act : Act) (rates : List Float) (text : List ℕ) (at : ℕ) (t : Targ
     turn-goes-on g z u m =
         subst (λ (cs : List Call). Made cs x z u) (sym (calls-next p q s))
         (goes-on (subst (After _) g a) (subst (λ (y : Lent). Made (callsOf act rates text (t .to)) y z u) is m))
-
--- ---- lines, one after the other
-
-pub passed-none : (x : Lent) (o : Outcome) → o ≡ Outcome.Going → Passed x x o
-passed-none x o e = subst (Passed x x) (sym e) begun
-
-pub passed-next : {x y z : Lent} {before after : Outcome} → before ≡ Outcome.Going → Passed x y before → Next y z after → Passed x z after
-passed-next {x = x} {y = y} e p n = then (subst (Passed x y) e p) (n .turn)

@@ -7,18 +7,16 @@ use mathlib.Core.List.{List, [], _∷_, _++_, append-assoc, append-nil}
 use lib.Dec.{eqb}
 use lib.Ieee.{Float}
 use native.Mathlib.Omega.{arith}
-use denote.Enum.Declared.{tagOf}
 use borrow.Author.Tests.{eq-eqb, ne-eqb}
 use Rattle.model.specs.Calls.{Call, Lent, step}
 use Rattle.model.specs.Demand3.{next, afterCalls, madeOf}
-use Rattle.input.specs.declared.Found.{Found}
 use Rattle.passes.specs.declared.Outcome.{Outcome}
 use Rattle.passes.specs.declared.Outcome.the-variants as Outcome
 use Rattle.circuit.specs.declared.lines.Item.{Item}
 use Rattle.passes.specs.Going.{goes}
-use Rattle.passes.proofs.Outcome.{the-type}
-use Rattle.second_pass.proofs.Lines.{not-going}
-use Rattle.second_pass.specs.Lines.{lineCalls, circuitCalls, After, goes-on-after, unwritten, too-much-lost, refused, Made, all-made, goes-on, ends, Stands, nothing, opened, too-deep, closed, no-repeat, bad, Ran, instruction, other, Unread, done, too-long, failed, cut, line, no-line, Passed, begun, then, Accepted, none, one, Whole, UpToRefusal}
+use Rattle.passes.specs.Turns.{line, no-line, Passed, begun, then}
+use Rattle.passes.proofs.Turns.{not-going, other-outcome, stands-not-end, unread-ends}
+use Rattle.second_pass.specs.Lines.{lineCalls, circuitCalls, After, goes-on-after, unwritten, too-much-lost, refused, Made, all-made, goes-on, ends, Ran, instruction, other, LineRan, Accepted, none, one, Whole, UpToRefusal}
 
 -- ---- calls that are all accepted, and those behind them
 
@@ -120,10 +118,6 @@ ran-reached (other s) = record { reached = []; left = []; all = refl; is = refl;
 
 -- ---- the circuit's end is read in no line
 
--- an outcome of another variant than the circuit's end
-other-outcome : (o : Outcome) → (tagOf the-type o ≡ 1 → ⊥) → o ≡ Outcome.Done → ⊥
-other-outcome o h e = h (ap (tagOf the-type) e)
-
 made-not-end : {cs : List Call} {x y : Lent} {o : Outcome} → Made cs x y o → o ≡ Outcome.Done → ⊥
 made-not-end all-made = other-outcome _ (λ z. omega (arith, z))
 made-not-end (goes-on a m) = made-not-end m
@@ -134,29 +128,17 @@ made-not-end (ends (refused e) h) = other-outcome _ (λ z. omega (arith, z))
 
 ran-not-end : {i : Item} {cs : List Call} {x y : Lent} {o : Outcome} → Ran i cs x y o → o ≡ Outcome.Done → ⊥
 ran-not-end (instruction m) = made-not-end m
-ran-not-end (other nothing) = other-outcome _ (λ z. omega (arith, z))
-ran-not-end (other opened) = other-outcome _ (λ z. omega (arith, z))
-ran-not-end (other too-deep) = other-outcome _ (λ z. omega (arith, z))
-ran-not-end (other closed) = other-outcome _ (λ z. omega (arith, z))
-ran-not-end (other no-repeat) = other-outcome _ (λ z. omega (arith, z))
-ran-not-end (other bad) = other-outcome _ (λ z. omega (arith, z))
-
-unread-ends : {found : Found} {o : Outcome} → Unread found o → o ≡ Outcome.Going → ⊥
-unfolding goes
-unread-ends done g = not-going _ refl g
-unread-ends too-long g = not-going _ refl g
-unread-ends failed g = not-going _ refl g
-unread-ends cut g = not-going _ refl g
+ran-not-end (other s) = stands-not-end s
 
 -- ---- LINE AFTER LINE
 
-one-more : (lines : List (List ℕ)) (text : List ℕ) → circuitCalls (lines ++ text ∷ []) ≡ circuitCalls lines ++ lineCalls text
+pub one-more : (lines : List (List ℕ)) (text : List ℕ) → circuitCalls (lines ++ text ∷ []) ≡ circuitCalls lines ++ lineCalls text
 unfolding circuitCalls
 one-more [] text = append-nil (lineCalls text)
 one-more (l ∷ lines) text = ap (λ (cs : List Call). lineCalls l ++ cs) (one-more lines text) ∙ sym (append-assoc (lineCalls l) (circuitCalls lines) (lineCalls text))
 
 -- all calls so far, and those of one line more
-pub passed-going : {x y : Lent} {o : Outcome} → Passed x y o → o ≡ Outcome.Going → Whole x y
+pub passed-going : {x y : Lent} {o : Outcome} → Passed LineRan x y o → o ≡ Outcome.Going → Whole x y
 unfolding circuitCalls afterCalls
 passed-going begun g = record { lines = []; is = refl; accepted = none }
 passed-going {x = x} (then p (line {text = text} r)) g =
@@ -174,7 +156,7 @@ passed-going {x = x} (then p (line {text = text} r)) g =
 passed-going (then p (no-line u)) g = absurd (unread-ends u g)
 
 -- A PASS THAT ENDS WITH THE CIRCUIT'S END has made all calls of all lines, and each was accepted
-pub passed-done : {x y : Lent} {o : Outcome} → Passed x y o → o ≡ Outcome.Done → Whole x y
+pub passed-done : {x y : Lent} {o : Outcome} → Passed LineRan x y o → o ≡ Outcome.Done → Whole x y
 unfolding goes
 passed-done begun e = absurd (not-going _ refl (sym e))
 passed-done (then p (line r)) e = absurd (ran-not-end r e)
@@ -195,7 +177,7 @@ whole-reached {x = x} o w =
     }
 
 -- HOWEVER IT ENDS, the calls up to the first refusal were made
-pub passed-up-to-refusal : {x y : Lent} {o : Outcome} → Passed x y o → UpToRefusal x y o
+pub passed-up-to-refusal : {x y : Lent} {o : Outcome} → Passed LineRan x y o → UpToRefusal x y o
 passed-up-to-refusal begun = whole-reached _ (passed-going begun refl)
 passed-up-to-refusal {x = x} (then p (line {text = text} r)) =
     let w = passed-going p refl in

@@ -7,15 +7,13 @@ use mathlib.Core.List.{List, [], _∷_, _++_, map}
 use lib.Ieee.{Float}
 use Rattle.model.specs.Calls.{Call, Lent, step}
 use Rattle.model.specs.Demand3.{next, afterCalls, madeOf}
+use Rattle.passes.specs.Turns.{Stands}
 use Rattle.passes.specs.declared.Outcome.{Outcome}
 use Rattle.passes.specs.declared.Outcome.the-variants as Outcome
-use Rattle.input.specs.declared.Found.{Found}
-use Rattle.input.specs.declared.Found.the-variants as Found
 use Rattle.circuit.specs.Names.{takesPairs}
 use Rattle.circuit.specs.Lines.{lineOf}
 use Rattle.circuit.specs.Targets.{targetsFrom}
 use Rattle.circuit.specs.declared.lines.Act.{Act}
-use Rattle.circuit.specs.declared.lines.Fault.{Fault}
 use Rattle.circuit.specs.declared.lines.Item.{Item}
 use Rattle.circuit.specs.declared.lines.Item.the-variants.{Nothing, Call as call, Repeat, Close, Bad}
 use Rattle.calls.specs.Instructions.{callOf}
@@ -49,15 +47,6 @@ pub data Made : List Call → Lent → Lent → Outcome → Type 0 where
   goes-on : {c : Call} {cs : List Call} {x y : Lent} {o : Outcome} → After (step c x .answer .number) Outcome.Going → Made cs (next (step c x)) y o → Made (c ∷ cs) x y o
   ends : {c : Call} {cs : List Call} {x : Lent} {o : Outcome} → After (step c x .answer .number) o → (o ≡ Outcome.Going → ⊥) → Made (c ∷ cs) x (next (step c x)) o
 
--- how a pass stands after a line that makes no call
-pub data Stands : Item → Outcome → Type 0 where
-  nothing : Stands Nothing Outcome.Going
-  opened : {times : ℕ} → Stands (Repeat times) Outcome.Going
-  too-deep : {times : ℕ} → Stands (Repeat times) Outcome.TooDeep
-  closed : Stands Close Outcome.Going
-  no-repeat : Stands Close Outcome.NoRepeat
-  bad : {fault : Fault} → Stands (Bad fault) (Outcome.Bad fault)
-
 -- A LINE that asks for an item, and the calls that it stands for
 pub data Ran : Item → List Call → Lent → Lent → Outcome → Type 0 where
   instruction : {act : Act} {cs : List Call} {x y : Lent} {o : Outcome} → Made cs x y o → Ran (call act) cs x y o
@@ -66,29 +55,6 @@ pub data Ran : Item → List Call → Lent → Lent → Outcome → Type 0 where
 -- .. by its text
 abbrev pub LineRan : List ℕ → Lent → Lent → Outcome → Type 0
 LineRan text = Ran (lineOf text .item) (lineCalls text)
-
--- how a pass ends where no line was found: only the circuit's end is one
-pub data Unread : Found → Outcome → Type 0 where
-  done : Unread Found.End Outcome.Done
-  too-long : Unread Found.TooLong Outcome.TooLong
-  failed : Unread Found.Failed Outcome.Failed
-  cut : Unread Found.Cut Outcome.Cut
-
--- A TURN: the line that was found is run, or the pass ends
-pub data Turn : Found → (text : List ℕ) → Lent → Lent → Outcome → Type 0 where
-  line : {text : List ℕ} {x y : Lent} {o : Outcome} → LineRan text x y o → Turn Found.Line text x y o
-  no-line : {found : Found} {text : List ℕ} {x : Lent} {o : Outcome} → Unread found o → Turn found text x x o
-
--- .. whatever is found
-pub record Next (x y : Lent) (o : Outcome) : Type 0 where
-  pub found : Found
-  pub text : List ℕ
-  pub turn : Turn found text x y o
-
--- ALL LINES that were read, each run on what the one before it left, while the pass goes on
-pub data Passed (x : Lent) : Lent → Outcome → Type 0 where
-  begun : Passed x x Outcome.Going
-  then : {y z : Lent} {o : Outcome} {found : Found} {text : List ℕ} → Passed x y Outcome.Going → Turn found text y z o → Passed x z o
 
 -- ---- WHAT IS SAID WITH THAT of a pass that is over, by the lines that were read (proofs/Whole.antt)
 

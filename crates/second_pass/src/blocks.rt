@@ -4,7 +4,7 @@ use passes::Outcome;
 use passes::Pass;
 ghost use Prim.Native.Nat.{_+_, _≤_, _<_};
 ghost use Rattle.circuit.specs.declared.lines.Item.the-variants.{Repeat, Close};
-ghost use Rattle.second_pass.specs.Lines.{Stands};
+ghost use Rattle.passes.specs.Turns.{Stands};
 
 pub const STACK_WORDS: usize = 320;
 

@@ -20,7 +20,8 @@ ghost use Rattle.model.specs.Calls.{held, step};
 ghost use Rattle.model.specs.Known.{Known, knownAfter};
 ghost use Rattle.model.specs.Demand3.{next};
 ghost use Rattle.calls.specs.Instructions.{callOn};
-ghost use Rattle.second_pass.specs.Lines.{callsOf, After, Made, LineRan, Turn, Next, Passed};
+ghost use Rattle.passes.specs.Turns.{Turn, Next, Passed};
+ghost use Rattle.second_pass.specs.Lines.{callsOf, After, Made, LineRan};
 
 // What the calls so far came to.
 pub struct Totals {
@@ -231,7 +232,7 @@ fn run_found(
     wanted: Wanted,
 ) -> Run
     requires { ⌜ (r .pass .window .from ≤ r .pass .window .to) × (r .pass .window .to ≤ length (now bytes)) × (r .pass .outcome ≡ Outcome.Going) × Known (r .known) (held (r .header) (now store)) ⌝ }
-    ensures is { λ a. ⌜ Turn (r .pass .window .found) (take (r .pass .window .to - r .pass .window .from) (drop (r .pass .window .from) (now (bytes .entry)))) (held (r .header) (now (store .entry))) (held (a .header) (now (store .exit))) (a .pass .outcome) ⌝ }
+    ensures is { λ a. ⌜ Turn LineRan (r .pass .window .found) (take (r .pass .window .to - r .pass .window .from) (drop (r .pass .window .from) (now (bytes .entry)))) (held (r .header) (now (store .entry))) (held (a .header) (now (store .exit))) (a .pass .outcome) ⌝ }
     ensures known { λ a. ⌜ Known (a .known) (held (a .header) (now (store .exit))) ⌝ }
 {
     let pass = r.pass;
@@ -258,7 +259,7 @@ fn run_line(
     wanted: Wanted,
 ) -> Run
     requires { ⌜ Known (r .known) (held (r .header) (now store)) ⌝ }
-    ensures is { λ a. ⌜ Next (held (r .header) (now (store .entry))) (held (a .header) (now (store .exit))) (a .pass .outcome) ⌝ }
+    ensures is { λ a. ⌜ Next LineRan (held (r .header) (now (store .entry))) (held (a .header) (now (store .exit))) (a .pass .outcome) ⌝ }
     ensures known { λ a. ⌜ Known (a .known) (held (a .header) (now (store .exit))) ⌝ }
 {
     let before = r.pass;
@@ -298,7 +299,7 @@ pub fn run_all(
     wanted: Wanted,
 ) -> Run
     requires { ⌜ Known known (held header (now store)) ⌝ }
-    ensures { λ r. ⌜ Passed (held header (now (store .entry))) (held (r .header) (now (store .exit))) (r .pass .outcome) ⌝ }
+    ensures { λ r. ⌜ Passed LineRan (held header (now (store .entry))) (held (r .header) (now (store .exit))) (r .pass .outcome) ⌝ }
 {
     let mut r = start(header, known);
     let mut turns = u64::MAX;

@@ -1,7 +1,7 @@
 -- `second_pass::blocks::closed` meets its contract: the block is over or gone through again, or there is none. Assumes nothing.
 use mathlib.Core.Path.{sym, subst}
 use borrow.Author.Needs.{needs}
-use Rattle.second_pass.specs.Lines.{Stands, closed, no-repeat}
+use Rattle.passes.specs.Turns.{Stands, closed, no-repeat}
 use Rattle.second_pass.proofs.blocks.closed.Statement.{statement}
 use Rattle.second_pass.proofs.blocks.closed.Tie as tie
 

@@ -1,7 +1,7 @@
 -- `second_pass::blocks::opened` meets its contract: one block more, or one too many. Assumes nothing.
 use mathlib.Core.Path.{sym, subst}
 use borrow.Author.Needs.{needs}
-use Rattle.second_pass.specs.Lines.{Stands, opened, too-deep}
+use Rattle.passes.specs.Turns.{Stands, opened, too-deep}
 use Rattle.second_pass.proofs.blocks.opened.Statement.{statement}
 use Rattle.second_pass.proofs.blocks.opened.Tie as tie
 

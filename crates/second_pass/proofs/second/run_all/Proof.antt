@@ -9,8 +9,10 @@ use Rattle.model.specs.Calls.{held}
 use Rattle.model.specs.Known.{Known}
 use Rattle.model.specs.declared.Header.{Header}
 use Rattle.passes.specs.declared.Outcome.the-variants as Outcome
-use Rattle.second_pass.specs.Lines.{Passed}
-use Rattle.second_pass.proofs.Lines.{known-as, going, passed-none, passed-next}
+use Rattle.passes.specs.Turns.{Passed}
+use Rattle.passes.proofs.Turns.{going, passed-none, passed-next}
+use Rattle.second_pass.specs.Lines.{LineRan}
+use Rattle.second_pass.proofs.Lines.{known-as}
 use Rattle.second_pass.proofs.second.run_all.Statement.{statement}
 use Rattle.second_pass.proofs.second.run_all.Tie as tie
 
@@ -19,7 +21,7 @@ Inv-loop s bytes₀ stack₀ store₀ known wanted r₀ turns₀ bytes stack sto
     (length bytes ≡ length bytes₀)
     × (length store ≡ length store₀)
     × Known (r .known) (held (r .header) store)
-    × Passed (held (r₀ .header) store₀) (held (r .header) store) (r .pass .outcome)
+    × Passed LineRan (held (r₀ .header) store₀) (held (r .header) store) (r .pass .outcome)
     × (r .pass .outcome ≡ Outcome.Going)
 
 abbrev μ-loop : tie.MeasureT-loop
@@ -35,7 +37,7 @@ loop-holds c =
       refl,
       refl,
       known-as (a .args .known) (s .result .known) (a .args .header) (s .result .header) (now (a .args .store)) (s .ensures .2) (s .ensures .1) (a .pre),
-      passed-none (held (s .result .header) (now (a .args .store))) (s .result .pass .outcome) (s .ensures .0),
+      passed-none LineRan (held (s .result .header) (now (a .args .store))) (s .result .pass .outcome) (s .ensures .0),
       s .ensures .0,
     )
 
@@ -56,8 +58,8 @@ returns c =
     let k = c .before .before .before .before .before .before .run-line in
     let l = c .before .before .before .before .before .before .before .before .before .before .before in
     let s = l .before .start in
-    subst (λ (h : Header). Passed (held h (now (l .before .before .before .before .args .store))) (held (k .result .header) (k .last .1 .1 .1 .0)) (k .result .pass .outcome)) (s .ensures .1)
-    (passed-next (l .loop .inv .4) (l .loop .inv .3) (k .ensures .0))
+    subst (λ (h : Header). Passed LineRan (held h (now (l .before .before .before .before .args .store))) (held (k .result .header) (k .last .1 .1 .1 .0)) (k .result .pass .outcome)) (s .ensures .1)
+    (passed-next LineRan (l .loop .inv .4) (l .loop .inv .3) (k .ensures .0))
 
 sub-turns : tie.Need-sub-turns Inv-loop μ-loop
 sub-turns c = search needs
@@ -70,7 +72,7 @@ loop-again c =
     let k = c .before .before .before .before .before .before .run-line in
     let l = c .before .before .before .before .before .before .before .before .before .before .before in
     let on = going (k .result .pass .outcome) (sym (c .before .is-going .ensures) ∙ not-false _ (c .if1 .left)) in
-    (search needs, search needs, k .ensures .1, passed-next (l .loop .inv .4) (l .loop .inv .3) (k .ensures .0), on)
+    (search needs, search needs, k .ensures .1, passed-next LineRan (l .loop .inv .4) (l .loop .inv .3) (k .ensures .0), on)
 
 same-length-3 : tie.Need-same-length-3 Inv-loop μ-loop
 same-length-3 c = search needs
@@ -81,7 +83,7 @@ same-length-4 c = search needs
 returns-2 : tie.Need-returns-2 Inv-loop μ-loop
 returns-2 c =
     let l = c .before in
-    subst (λ (h : Header). Passed (held h (now (l .before .before .before .before .args .store))) (held (l .loop .r .header) (l .loop .store)) (l .loop .r .pass .outcome)) (l .before .start .ensures .1) (l .loop .inv .3)
+    subst (λ (h : Header). Passed LineRan (held h (now (l .before .before .before .before .args .store))) (held (l .loop .r .header) (l .loop .store)) (l .loop .r .pass .outcome)) (l .before .start .ensures .1) (l .loop .inv .3)
 
 pub run-all-spec : {M : Type 1} → statement M
 run-all-spec =

@@ -6,8 +6,10 @@ use Prim.Native.Nat.{_-_}
 use lib.ListN.{take, drop}
 use borrow.Author.Needs.{needs}
 use Rattle.model.specs.Calls.{held}
-use Rattle.second_pass.specs.Lines.{Turn, line, done, too-long, failed, cut}
-use Rattle.second_pass.proofs.Lines.{same-sum, same-known, nothing-read}
+use Rattle.passes.specs.Turns.{Turn, line, done, too-long, failed, cut}
+use Rattle.passes.proofs.Turns.{nothing-read}
+use Rattle.second_pass.specs.Lines.{LineRan}
+use Rattle.second_pass.proofs.Lines.{same-sum, same-known}
 use Rattle.second_pass.proofs.second.run_found.Statement.{statement}
 use Rattle.second_pass.proofs.second.run_found.Tie as tie
 
@@ -61,7 +63,7 @@ returns c =
     let y = held (r .result .header) (r .last .1 .1 .0) in
     let w = a .args .r .pass .window in
     let text = take (w .to - w .from) (drop (w .from) (now (a .args .bytes))) in
-    (subst (λ (f : Found). Turn f text x y (r .result .pass .outcome)) (sym (c .before .before .before .before .before .before .enum-told .given .1)) (line (r .ensures .0)), r .ensures .1)
+    (subst (λ (f : Found). Turn LineRan f text x y (r .result .pass .outcome)) (sym (c .before .before .before .before .before .before .enum-told .given .1)) (line (r .ensures .0)), r .ensures .1)
 
 returns-2 : tie.Need-returns-2
 returns-2 c =
@@ -69,7 +71,7 @@ returns-2 c =
     let w = now (a .args .store) in
     let r = c .ended .result in
     let e = c .ended .ensures in (
-      nothing-read (held (a .args .r .header) w) (held (r .header) w) (same-sum (a .args .r) r w (e .1) (e .2)) (c .before .enum-told2 .given .1) (e .0) done,
+      nothing-read LineRan (held (a .args .r .header) w) (held (r .header) w) (same-sum (a .args .r) r w (e .1) (e .2)) (c .before .enum-told2 .given .1) (e .0) done,
       same-known (a .args .r) r w (e .1) (e .2) (a .pre .3),
     )
 
@@ -79,7 +81,7 @@ returns-3 c =
     let w = now (a .args .store) in
     let r = c .ended2 .result in
     let e = c .ended2 .ensures in (
-      nothing-read (held (a .args .r .header) w) (held (r .header) w) (same-sum (a .args .r) r w (e .1) (e .2)) (c .before .enum-told3 .given .1) (e .0) too-long,
+      nothing-read LineRan (held (a .args .r .header) w) (held (r .header) w) (same-sum (a .args .r) r w (e .1) (e .2)) (c .before .enum-told3 .given .1) (e .0) too-long,
       same-known (a .args .r) r w (e .1) (e .2) (a .pre .3),
     )
 
@@ -89,7 +91,7 @@ returns-4 c =
     let w = now (a .args .store) in
     let r = c .ended3 .result in
     let e = c .ended3 .ensures in (
-      nothing-read (held (a .args .r .header) w) (held (r .header) w) (same-sum (a .args .r) r w (e .1) (e .2)) (c .before .enum-told4 .given .1) (e .0) failed,
+      nothing-read LineRan (held (a .args .r .header) w) (held (r .header) w) (same-sum (a .args .r) r w (e .1) (e .2)) (c .before .enum-told4 .given .1) (e .0) failed,
       same-known (a .args .r) r w (e .1) (e .2) (a .pre .3),
     )
 
@@ -99,7 +101,7 @@ returns-5 c =
     let w = now (a .args .store) in
     let r = c .ended4 .result in
     let e = c .ended4 .ensures in (
-      nothing-read (held (a .args .r .header) w) (held (r .header) w) (same-sum (a .args .r) r w (e .1) (e .2)) (c .before .enum-told5 .given .1) (e .0) cut,
+      nothing-read LineRan (held (a .args .r .header) w) (held (r .header) w) (same-sum (a .args .r) r w (e .1) (e .2)) (c .before .enum-told5 .given .1) (e .0) cut,
       same-known (a .args .r) r w (e .1) (e .2) (a .pre .3),
     )
 

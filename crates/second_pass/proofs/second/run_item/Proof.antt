@@ -4,7 +4,8 @@ use denote.Ref.{now}
 use borrow.Author.Needs.{needs}
 use Rattle.model.specs.Calls.{held}
 use Rattle.passes.specs.declared.Pass.{Pass}
-use Rattle.second_pass.specs.Lines.{callsOf, callsFor, instruction, Stands, nothing, bad}
+use Rattle.passes.specs.Turns.{Stands, nothing, bad}
+use Rattle.second_pass.specs.Lines.{callsOf, callsFor, instruction}
 use Rattle.second_pass.proofs.Lines.{same-sum, same-known, line-ran, calls-nothing}
 use Rattle.second_pass.proofs.second.run_item.Statement.{statement}
 use Rattle.second_pass.proofs.second.run_item.Tie as tie

@@ -7,7 +7,8 @@ use borrow.Author.Needs.{needs}
 use Rattle.model.specs.Calls.{Lent, held}
 use Rattle.input.specs.declared.Window.{Window}
 use Rattle.passes.specs.declared.Pass.{Pass}
-use Rattle.second_pass.specs.Lines.{Next}
+use Rattle.passes.specs.Turns.{Next}
+use Rattle.second_pass.specs.Lines.{LineRan}
 use Rattle.second_pass.proofs.Lines.{same-sum, same-known}
 use Rattle.second_pass.proofs.second.run_line.Statement.{statement}
 use Rattle.second_pass.proofs.second.run_line.Tie as tie
@@ -52,7 +53,7 @@ returns c =
     let p = c .before .before .before .before .before .before in
     let a = from p in
     let e = p .with-pass .ensures in (
-      subst (λ (x : Lent). Next x (held (f .result .header) (f .last .1 .1 .0)) (f .result .pass .outcome))
+      subst (λ (x : Lent). Next LineRan x (held (f .result .header) (f .last .1 .1 .0)) (f .result .pass .outcome))
           (same-sum (a .args .r) (p .with-pass .result) (now (a .args .store)) (e .1) (e .2)) (record { found = _; text = _; turn = f .ensures .0 }),
       f .ensures .1,
     )

@@ -15,8 +15,9 @@ use Rattle.circuit.specs.Targets.{targetAt}
 use Rattle.circuit.proofs.TargetLists.{no-target}
 use Rattle.passes.specs.declared.Outcome.{Outcome}
 use Rattle.passes.specs.declared.Outcome.the-variants as Outcome
+use Rattle.passes.proofs.Turns.{not-going, going}
 use Rattle.second_pass.specs.Lines.{callsOf, Made}
-use Rattle.second_pass.proofs.Lines.{not-going, going, none-left, turn-ends, turn-goes-on}
+use Rattle.second_pass.proofs.Lines.{none-left, turn-ends, turn-goes-on}
 use Rattle.second_pass.proofs.second.run_targets.Statement.{statement}
 use Rattle.second_pass.proofs.second.run_targets.Tie as tie
 
