@@ -54,10 +54,10 @@ module _ (r s : Run) (w : List ℕ) (e : s .header ≡ r .header) (f : s .known 
 
 -- a line that was read as l, and what that asks for
 module _ (text : List ℕ) (l : Line) (e : l ≡ lineOf text) {i : Item} (asks : l .item ≡ i) where
-  item-is : i ≡ lineOf text .item
+  pub item-is : i ≡ lineOf text .item
   item-is = sym asks ∙ ap (λ (m : Line). m .item) e
 
-  line-calls : callsFor i (l .rates) text (l .targets) ≡ lineCalls text
+  pub line-calls : callsFor i (l .rates) text (l .targets) ≡ lineCalls text
   unfolding lineCalls
   line-calls =
       ap (λ (j : Item). callsFor j (l .rates) text (l .targets)) (sym asks) ∙ ap (λ (m : Line). callsFor (m .item) (m .rates) text (m .targets)) e
