@@ -5,9 +5,18 @@ use input::Source;
 use model::Channel;
 use model::Size;
 use options::Cutoffs;
+use step_pass::Gathered;
 use step_pass::Step;
+ghost use mathlib.Core.Path.{_≡_};
+ghost use mathlib.Core.List.{map};
+ghost use lib.ListN.{length};
+ghost use Rattle.model.specs.Calls.{overlaid};
+ghost use Rattle.model.specs.Trials.{tried};
+ghost use Rattle.step_pass.specs.Gathering.{planOn};
 
-fn channels_of(steps: [Step; 64]) -> [Channel; 64] {
+fn channels_of(steps: [Step; 64]) -> [Channel; 64]
+    ensures { λ r. ⌜ r ≡ map (λ s. s .channel) steps ⌝ }
+{
     let mut channels = [Channel::Loss(0.0); 64];
     let mut i: usize = 0;
     while i < 64 {
@@ -19,7 +28,9 @@ fn channels_of(steps: [Step; 64]) -> [Channel; 64] {
     channels
 }
 
-fn qubits_of(steps: [Step; 64]) -> [usize; 64] {
+fn qubits_of(steps: [Step; 64]) -> [usize; 64]
+    ensures { λ r. ⌜ r ≡ map (λ s. s .qubit) steps ⌝ }
+{
     let mut qubits: [usize; 64] = [0; 64];
     let mut i: usize = 0;
     while i < 64 {
@@ -30,59 +41,52 @@ fn qubits_of(steps: [Step; 64]) -> [usize; 64] {
     qubits
 }
 
-// The call, with the first cutoffs of a list: what it shows is written to `out`. Its number.
+// The call, on the steps that were gathered: what it shows is written to `out`. Its number.
 fn call(
     size: Size,
     threshold: f64,
-    values: &[f64],
-    cutoffs: usize,
-    steps: [Step; 64],
-    count: usize,
+    cutoffs: &[f64],
+    g: Gathered,
     store: &mut [u64],
     out: &mut [u64],
-) -> u64 {
-    if values.len() < cutoffs {
-        return 11;
-    }
+) -> u64
+    ensures number { λ r. ⌜ r ≡ tried (planOn size threshold (now (cutoffs .entry)) g) (length (now (out .entry))) (now (store .entry)) .answer .number ⌝ }
+    ensures shown { λ r. ⌜ now (out .exit) ≡ overlaid (tried (planOn size threshold (now (cutoffs .entry)) g) (length (now (out .entry))) (now (store .entry)) .output) (now (out .entry)) ⌝ }
+{
+    let steps = g.steps;
     let a = trials::try_cutoffs(
         size,
         threshold,
-        &values[0..cutoffs],
+        cutoffs,
         channels_of(steps),
         qubits_of(steps),
-        count,
+        g.count,
         store,
         out,
     );
     a.number
 }
 
+// It is said that the call was refused with a number.
+fn refused(number: u64) -> bool {
+    outputs::tell_refused(b"the call that tries the cutoffs", number);
+    false
+}
+
 // Steps that there are, tried. Whether the table is written; else it is said why not.
-fn try_steps(
-    steps: [Step; 64],
-    count: usize,
-    store: &mut [u64],
-    size: Size,
-    threshold: f64,
-    c: Cutoffs,
-) -> bool {
+fn try_steps(g: Gathered, store: &mut [u64], size: Size, threshold: f64, c: Cutoffs) -> bool {
     let mut out = [0u64; 1024];
+    let steps = g.steps;
     let values = c.values;
-    let number = call(
-        size,
-        threshold,
-        &values,
-        c.count,
-        steps,
-        count,
-        store,
-        &mut out,
-    );
-    if number != 0 {
-        outputs::tell_refused(b"the call that tries the cutoffs", number);
-        return false;
+    let cutoffs = c.count;
+    if values.len() < cutoffs {
+        return refused(11);
     }
-    outputs::is_written(entries_table::write(steps, count, c, &out))
+    let number = call(size, threshold, &values[0..cutoffs], g, store, &mut out);
+    if number != 0 {
+        return refused(number);
+    }
+    outputs::is_written(entries_table::write(steps, g.count, c, &out))
 }
 
 // The steps of a circuit that was looked at, in a store of the length that its size has.
@@ -107,6 +111,5 @@ pub fn run(
         );
         return false;
     }
-    let steps = g.steps;
-    try_steps(steps, g.count, store, size, threshold, c)
+    try_steps(g, store, size, threshold, c)
 }

@@ -51,9 +51,9 @@ module _ (steps : List Step) (count : ℕ) (long : length steps ≡ maxSteps) wh
       let l : count < length (map stepCall steps) = omega (arith, calls-long, h) in
       let n : count + 1 ≡ suc count = omega arith in
       let e =
-          ap (λ (k : ℕ). take k (map stepCall (set steps count s))) n
-          ∙ ap (take (suc count)) (map-set stepCall steps count s)
-          ∙ take-suc-set (map stepCall steps) count (stepCall s) l in
+      ap (λ (k : ℕ). take k (map stepCall (set steps count s))) n
+      ∙ ap (take (suc count)) (map-set stepCall steps count s)
+      ∙ take-suc-set (map stepCall steps) count (stepCall s) l in
       goes-on {before = before} (omega (arith, length-take-le count (map stepCall steps) (omega (arith, l)), h))
       (subst (λ (after : List Call). Taken [] (before ++ (stepCall s ∷ [])) after Outcome.Going) (sym e) all-taken)
 

@@ -169,12 +169,7 @@ fn gather_found(bytes: &[u8], stack: &mut [u64; STACK_WORDS], g: Gathered) -> Ga
 }
 
 // The next line.
-fn gather_line(
-    s: Source,
-    bytes: &mut [u8],
-    stack: &mut [u64; STACK_WORDS],
-    g: Gathered,
-) -> Gathered
+fn gather_line(s: Source, bytes: &mut [u8], stack: &mut [u64; STACK_WORDS], g: Gathered) -> Gathered
     ensures { λ r. ⌜ Next LineGathers (stepsOf g) (stepsOf r) (r .pass .outcome) ⌝ }
 {
     let before = g.pass;

@@ -1,17 +1,27 @@
--- `run_circuit::trying::qubits_of` is safe and ends. Assumes nothing.
-use Prim.Native.Nat.{_-_, _≤_}
+-- `run_circuit::trying::qubits_of` meets its contract: the first i places are filled. Assumes nothing.
+use mathlib.Core.Path.{_≡_, refl, sym, _∙_}
+use mathlib.Core.List.{map}
+use Prim.Native.Nat.{_-_, _≤_, _<_}
+use native.Mathlib.Omega.{arith}
+use lib.ListN.{length, take, length-set}
 use borrow.Author.Needs.{needs}
+use Rattle.run_circuit.proofs.Mapped.{mapped-next, mapped-end}
 use Rattle.run_circuit.proofs.trying.qubits_of.Statement.{statement}
 use Rattle.run_circuit.proofs.trying.qubits_of.Tie as tie
 
 abbrev Inv-loop : tie.InvT-loop
-Inv-loop steps qubits₀ i₀ qubits i = i ≤ 64
+Inv-loop steps qubits₀ i₀ qubits i =
+    (i ≤ 64) × (length qubits ≡ 64) × (take i qubits ≡ map (λ s. s .qubit) (take i steps))
 
 abbrev μ-loop : tie.MeasureT-loop
 μ-loop steps qubits₀ i₀ qubits i = 64 - i
 
+-- there are 64 steps
+long : (c : tie.Start Inv-loop μ-loop) → length (c .args .t1) ≡ 64
+long c = c .good .0 .1 .0 .1
+
 loop-holds : tie.Need-loop-holds Inv-loop μ-loop
-loop-holds c = search needs
+loop-holds c = (omega arith, refl, refl)
 
 mul-step : tie.Need-mul-step Inv-loop μ-loop
 mul-step c = search needs
@@ -32,10 +42,21 @@ loop-less : tie.Need-loop-less Inv-loop μ-loop
 loop-less c = search needs
 
 loop-again : tie.Need-loop-again Inv-loop μ-loop
-loop-again c = search needs
+loop-again c =
+    let l = c .before .before in
+    let h = c .before .loop-test .taken in
+    let i = l .loop .inv in (
+      omega (arith, h),
+      length-set (l .loop .qubits) (l .loop .i) _ ∙ i .1,
+      mapped-next (λ s. s .qubit) (l .before .args .t1) (l .loop .qubits) (l .loop .i) _ (omega (arith, h, i .1)) (omega (arith, h, long (l .before))) (i .2),
+    )
 
 returns : tie.Need-returns Inv-loop μ-loop
-returns c = search needs
+returns c =
+    let l = c .before in
+    let i = l .loop .inv in
+    let e = c .loop-test .left in
+    mapped-end (λ s. s .qubit) (l .before .args .t1) (l .loop .qubits) (l .loop .i) (omega (arith, e, i .1)) (omega (arith, e, long (l .before))) (i .2)
 
 pub qubits-of-spec : {M : Type 1} → statement M
 qubits-of-spec =
