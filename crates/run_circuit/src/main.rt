@@ -2,7 +2,6 @@
 // cutoffs on it, and prints how many entries each leads to.
 mod both_passes;
 mod descriptors;
-mod entries_table;
 mod help;
 mod outputs;
 mod trying;

@@ -1,2 +1,3 @@
 pub mod Gathering
+mod Mapped
 mod Whole

@@ -1,5 +1,7 @@
 // The steps of trials, gathered: a channel on a qubit for each target, in the order in which the circuit runs them. `}` goes back to the line
 // after its REPEAT while repetitions are left, as in the second pass.
+mod tried;
+
 use circuit::Act;
 use circuit::Item;
 use circuit::Line;
@@ -10,6 +12,7 @@ use model::Channel;
 use passes::Outcome;
 use passes::Pass;
 use second_pass::STACK_WORDS;
+pub use tried::try_cutoffs;
 ghost use mathlib.Core.Path.{_≡_};
 ghost use mathlib.Core.List.{[], _∷_};
 ghost use Prim.Native.Nat.{_-_, _≤_};

@@ -11,22 +11,22 @@ refused-requires c κs = search needs
 returns : tie.Need-returns
 returns c = search needs
 
-sub-call : tie.Need-sub-call
-sub-call c = search needs
+sub-try-cutoffs : tie.Need-sub-try-cutoffs
+sub-try-cutoffs c = search needs
 
-part-call-start : tie.Need-part-call-start
-part-call-start c = search needs
+part-try-cutoffs-start : tie.Need-part-try-cutoffs-start
+part-try-cutoffs-start c = search needs
 
-part-call-end : tie.Need-part-call-end
-part-call-end c =
+part-try-cutoffs-end : tie.Need-part-try-cutoffs-end
+part-try-cutoffs-end c =
     let a = c .before .before .before .before .before in
     omega (arith, length-unmapped Float (a .args .c .values) 8 (a .good .1 .1 .1 .1 .0 .1 .1 .1 .1 .0 .1 .0 .1), c .before .if1 .left)
 
-slice-aggregate-call : tie.Need-slice-aggregate-call
-slice-aggregate-call c = search needs
+slice-aggregate-try-cutoffs : tie.Need-slice-aggregate-try-cutoffs
+slice-aggregate-try-cutoffs c = search needs
 
-call-requires : tie.Need-call-requires
-call-requires c κs = search needs
+try-cutoffs-requires : tie.Need-try-cutoffs-requires
+try-cutoffs-requires c κs = search needs
 
 refused-requires-2 : tie.Need-refused-requires-2
 refused-requires-2 c κs = search needs
@@ -55,11 +55,11 @@ try-steps-spec =
     (tie.spec
     refused-requires
     returns
-    sub-call
-    part-call-start
-    part-call-end
-    slice-aggregate-call
-    call-requires
+    sub-try-cutoffs
+    part-try-cutoffs-start
+    part-try-cutoffs-end
+    slice-aggregate-try-cutoffs
+    try-cutoffs-requires
     refused-requires-2
     same-length
     returns-2

@@ -1,8 +1,8 @@
--- `run_circuit::entries_table::write_head` is safe and ends. Assumes nothing.
+-- `entries_table::write_head` is safe and ends. Assumes nothing.
 use Prim.Native.Nat.{_-_, _≤_}
 use borrow.Author.Needs.{needs}
-use Rattle.run_circuit.proofs.entries_table.write_head.Statement.{statement}
-use Rattle.run_circuit.proofs.entries_table.write_head.Tie as tie
+use Rattle.entries_table.proofs.write_head.Statement.{statement}
+use Rattle.entries_table.proofs.write_head.Tie as tie
 
 abbrev Inv-loop : tie.InvT-loop
 Inv-loop list c row₀ at₀ i₀ row at i = i ≤ c .count

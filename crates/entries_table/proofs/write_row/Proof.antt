@@ -1,8 +1,8 @@
--- `run_circuit::entries_table::write_row` is safe and ends. Assumes nothing.
+-- `entries_table::write_row` is safe and ends. Assumes nothing.
 use Prim.Native.Nat.{_-_, _≤_}
 use borrow.Author.Needs.{needs}
-use Rattle.run_circuit.proofs.entries_table.write_row.Statement.{statement}
-use Rattle.run_circuit.proofs.entries_table.write_row.Tie as tie
+use Rattle.entries_table.proofs.write_row.Statement.{statement}
+use Rattle.entries_table.proofs.write_row.Tie as tie
 
 abbrev Inv-loop : tie.InvT-loop
 Inv-loop i count cutoffs out row₀ at₀ cutoff₀ row at cutoff = cutoff ≤ cutoffs

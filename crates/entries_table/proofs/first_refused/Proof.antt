@@ -1,8 +1,8 @@
--- `run_circuit::entries_table::first_refused` is safe and ends. Assumes nothing.
+-- `entries_table::first_refused` is safe and ends. Assumes nothing.
 use Prim.Native.Nat.{_-_, _≤_}
 use borrow.Author.Needs.{needs}
-use Rattle.run_circuit.proofs.entries_table.first_refused.Statement.{statement}
-use Rattle.run_circuit.proofs.entries_table.first_refused.Tie as tie
+use Rattle.entries_table.proofs.first_refused.Statement.{statement}
+use Rattle.entries_table.proofs.first_refused.Tie as tie
 
 abbrev Inv-loop : tie.InvT-loop
 Inv-loop out cutoff count step₀ step = step ≤ count

@@ -1,4 +1,4 @@
--- `run_circuit::trying::call` meets its contract: the arrays that it hands over stand for the steps that were gathered. Assumes nothing.
+-- `step_pass::tried::try_cutoffs` meets its contract: the arrays that it hands over stand for the steps that were gathered. Assumes nothing.
 use mathlib.Core.Path.{_≡_, ap, _∙_}
 use mathlib.Core.List.{List, map}
 use denote.Ref.{now}
@@ -8,10 +8,10 @@ use Rattle.model.specs.Calls.{Call, overlaid}
 use Rattle.model.specs.Trials.{Plan, planOf, stepCalls, tried}
 use Rattle.model.specs.declared.Answer.{Answer}
 use Rattle.model.specs.declared.Channel.{Channel}
 use Rattle.step_pass.specs.Gathering.{stepsOf, planOn}
 use Rattle.step_pass.proofs.Gathering.{step-calls}
-use Rattle.run_circuit.proofs.trying.call.Statement.{statement}
-use Rattle.run_circuit.proofs.trying.call.Tie as tie
+use Rattle.step_pass.proofs.tried.try_cutoffs.Statement.{statement}
+use Rattle.step_pass.proofs.tried.try_cutoffs.Tie as tie
 
 abbrev from : tie.After-slice-known4 → tie.Start
 from c = c .before .before .before .before .before .before .before .before .before .before .before .before .before
@@ -56,8 +56,8 @@ returns c =
       t .ensures .1 .1 .0 ∙ ap (λ (p : Plan). overlaid (tried p room w .output) (now (a .out))) (plan c),
     )
 
-pub call-spec : {M : Type 1} → statement M
-call-spec =
+pub try-cutoffs-spec : {M : Type 1} → statement M
+try-cutoffs-spec =
     tie.close
     (tie.spec
     channels-of-requires

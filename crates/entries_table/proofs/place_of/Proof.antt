@@ -1,10 +1,10 @@
--- `run_circuit::entries_table::place_of` meets its contract: there are at most 8 cutoffs of at most 64 places of two words. Assumes nothing.
+-- `entries_table::place_of` meets its contract: there are at most 8 cutoffs of at most 64 places of two words. Assumes nothing.
 use Prim.Native.Nat.{ℕ, _*_, _<_, _≤_}
 use native.Mathlib.Nat.{mul-le-mul}
 use native.Mathlib.Omega.{arith}
 use borrow.Author.Needs.{needs}
-use Rattle.run_circuit.proofs.entries_table.place_of.Statement.{statement}
-use Rattle.run_circuit.proofs.entries_table.place_of.Tie as tie
+use Rattle.entries_table.proofs.place_of.Statement.{statement}
+use Rattle.entries_table.proofs.place_of.Tie as tie
 
 before-it : (cutoff count : ℕ) → cutoff < 8 → count ≤ 64 → cutoff * count ≤ 7 * 64
 before-it cutoff count h k = let w : cutoff ≤ 7 = omega (arith, h) in mul-le-mul w k
