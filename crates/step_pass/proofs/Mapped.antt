@@ -1,7 +1,7 @@
 -- An array filled place by place with what a function makes of another: with the first i places filled, one more makes it i + 1. Assumes nothing.
 use mathlib.Core.Path.{_≡_, sym, ap, _∙_}
 use mathlib.Core.List.{List, [], _∷_, _++_, map, map-append}
-use Prim.Native.Nat.{ℕ, suc, _+_, _<_, _≤_}
+use Prim.Native.Nat.{ℕ, _+_, _<_, _≤_}
 use native.Mathlib.Numerals.{add-one}
 use lib.ListN.{length, getD, take, set}
 use lib.Seq.{take-suc, take-suc-set, take-all}

@@ -30,7 +30,7 @@ unfolding stepsOf
 returns c =
     let a = c .before .before .before in
     let g = a .args .g in
-    subst (Taken _ _ _) (sym (a .pre)) (step-taken (g .steps) (g .count) (long a) (a .args .step) (c .before .before .if1 .taken))
+    subst (Taken _ _ _) (sym (a .pre)) (step-taken (g .steps) (g .count) (long a) (a .args .step) (omega (arith, c .before .before .if1 .taken)))
 
 ended-requires : tie.Need-ended-requires
 ended-requires c κs = search needs
