@@ -53,12 +53,9 @@ passed-going (then p (line {text = text} r)) g =
     }
 passed-going (then p (no-line u)) g = absurd (unread-ends u g)
 
-passed-end : {steps : List Call} {o : Outcome} → Passed LineGathers [] steps o → o ≡ Outcome.Done → WholeSteps steps
-unfolding goes
-passed-end begun e = absurd (not-going _ refl (sym e))
-passed-end (then p (line r)) e = absurd (gathers-not-end r e)
-passed-end (then p (no-line u)) e = passed-going p refl
-
 -- A PASS THAT ENDS WITH THE CIRCUIT'S END has gathered all calls of all lines
-pub passed-whole : (steps : List Call) → Passed LineGathers [] steps Outcome.Done → WholeSteps steps
-passed-whole steps p = passed-end p refl
+pub passed-whole : {steps : List Call} {o : Outcome} → Passed LineGathers [] steps o → o ≡ Outcome.Done → WholeSteps steps
+unfolding goes
+passed-whole begun e = absurd (not-going _ refl (sym e))
+passed-whole (then p (line r)) e = absurd (gathers-not-end r e)
+passed-whole (then p (no-line u)) e = passed-going p refl

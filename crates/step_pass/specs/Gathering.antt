@@ -49,7 +49,7 @@ pub data Gathers : Item → List Call → (before after : List Call) → Outcome
 abbrev pub LineGathers : List ℕ → (before after : List Call) → Outcome → Type 0
 LineGathers text = Gathers (lineOf text .item) (lineCalls text)
 
--- WHAT IS SAID WITH THAT of a pass that has come to the circuit's end (proofs/Whole.antt): the steps are all calls of all lines that were read
+-- WHAT IS SAID WITH THAT of a pass that has come to the circuit's end: the steps are all calls of all lines that were read
 pub record WholeSteps (steps : List Call) : Type 0 where
   pub lines : List (List ℕ)
   pub is : steps ≡ circuitCalls lines

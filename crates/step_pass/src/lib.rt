@@ -21,7 +21,7 @@ ghost use Rattle.circuit.specs.declared.lines.Act.the-variants as Act;
 ghost use Rattle.circuit.specs.declared.lines.Item.the-variants as Item;
 ghost use Rattle.second_pass.specs.Lines.{callsOf};
 ghost use Rattle.passes.specs.Turns.{Turn, Next, Passed};
-ghost use Rattle.step_pass.specs.Gathering.{stepCall, stepsOf, Taken, Gathers, LineGathers};
+ghost use Rattle.step_pass.specs.Gathering.{stepCall, stepsOf, Taken, Gathers, LineGathers, WholeSteps};
 
 // A step: its channel and its qubit; its line, and the instruction as the trace prints it, filled up with blanks.
 pub struct Step {
@@ -201,7 +201,8 @@ fn start() -> Gathered
 // All steps of a circuit that the first pass has looked at, or up to where it has an instruction that is none, or one step too many: where the pass
 // ends with the circuit's end they are the calls of all lines that were read, those that the second pass would make.
 pub fn gather(s: Source, bytes: &mut [u8]) -> Gathered
-    ensures { λ r. ⌜ Passed LineGathers [] (stepsOf r) (r .pass .outcome) ⌝ }
+    ensures lines { λ r. ⌜ Passed LineGathers [] (stepsOf r) (r .pass .outcome) ⌝ }
+    ensures whole { λ r. ⌜ (r .pass .outcome ≡ Outcome.Done → WholeSteps (stepsOf r)) ⌝ }
 {
     let mut stack = [0u64; STACK_WORDS];
     let mut g = start();

@@ -10,6 +10,7 @@ use Rattle.passes.specs.Turns.{Passed}
 use Rattle.passes.specs.declared.Outcome.the-variants as Outcome
 use Rattle.passes.proofs.Turns.{going, passed-none, passed-next}
 use Rattle.step_pass.specs.Gathering.{stepsOf, LineGathers}
+use Rattle.step_pass.proofs.Whole.{passed-whole}
 use Rattle.step_pass.proofs.gather.Statement.{statement}
 use Rattle.step_pass.proofs.gather.Tie as tie
 
@@ -41,7 +42,8 @@ returns : tie.Need-returns Inv-loop μ-loop
 returns c =
     let k = c .before .before .before .before .gather-line in
     let l = c .before .before .before .before .before .before .before .before in
-    passed-next LineGathers (l .loop .inv .2) (l .loop .inv .1) (k .ensures)
+    let p = passed-next LineGathers (l .loop .inv .2) (l .loop .inv .1) (k .ensures) in
+    (p, passed-whole p)
 
 sub-turns : tie.Need-sub-turns Inv-loop μ-loop
 sub-turns c = search needs
@@ -60,7 +62,7 @@ same-length-2 : tie.Need-same-length-2 Inv-loop μ-loop
 same-length-2 c = search needs
 
 returns-2 : tie.Need-returns-2 Inv-loop μ-loop
-returns-2 c = c .before .loop .inv .1
+returns-2 c = let p = c .before .loop .inv .1 in (p, passed-whole p)
 
 pub gather-spec : {M : Type 1} → statement M
 gather-spec =
