@@ -315,7 +315,7 @@ def steps_of(items):
 
 
 def tried(looked, options):
-    """The rows of the table; and of each trial that ended early its cutoff, and the step's number, line, qubit and refusal."""
+    """The rows; and of each trial that ended early or lost everything its cutoff, and the step's number, line, qubit and refusal."""
     cutoffs = options["try-cutoffs"].split(",")
     steps = steps_of(looked.items)
     *given, words = lent(options, looked.qubits)
@@ -326,10 +326,10 @@ def tried(looked, options):
     rows = [[at, i.line, tagged(i), q] for at, (i, q) in enumerate(steps, 1)]
     ended = []
     for cutoff, first in zip(cutoffs, range(0, room, 2 * len(steps))):
-        numbers = places[first : first + 2 * len(steps) : 2]
-        for row, number, entries in zip(rows, numbers, places[first + 1 :: 2]):
+        shown = list(zip(rows, places[first :: 2], places[first + 1 :: 2]))
+        for row, number, entries in shown:
             row.append(f"!{number}" if number else entries)
-        ended += [(cutoff, at, line, q, n) for (at, line, _, q, *_), n in zip(rows, numbers) if n][:1]
+        ended += [(cutoff, *row[:2], row[3], number) for row, number, entries in shown if number or not entries][:1]
     return rows, ended
 
 

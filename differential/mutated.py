@@ -151,7 +151,7 @@ def mutated(chance, data):
 
 
 def options_for(chance):
-    cutoffs = ["1e-3", "0.02", "0"]
+    cutoffs = ["1e-3", "0.02", "0", "1"]
     options = {"capacity": "16", "cutoff": chance.choice(cutoffs)}
     if chance.random() < 0.3:
         options = {"capacity": "16", "try-cutoffs": ",".join(chance.choices(cutoffs, k=chance.randint(1, circuits.second.MOST_CUTOFFS)))}
@@ -202,13 +202,13 @@ def wanted(data, options):
     return "sheet", circuits.sheet(header, words, None, None).encode()
 
 
-ENDED = re.compile(r"# cutoff (.*): step (\d+) \(line (\d+), qubit (\d+)\) was refused with (\d+): .*")
+ENDED = re.compile(r"# cutoff (.*): step (\d+) \(line (\d+), qubit (\d+)\) (?:was refused with (\d+)|ends with no entry): .*")
 
 
 def table(text):
     """The rows, as circuits.py has them, and what ended trials."""
     rows = [[int(word) if word.isdigit() else word for word in row] for row in circuits.numbers(text)]
-    return rows, [(cutoff, *map(int, others)) for cutoff, *others in ENDED.findall(text)]
+    return rows, [(cutoff, *(int(word or 0) for word in others)) for cutoff, *others in ENDED.findall(text)]
 
 
 def given(data, options):

@@ -1,5 +1,5 @@
 // The table of tried cutoffs: a row for each step, a column for each cutoff, with the entries after the step or, from the step on that was
-// refused, `!` and the number; and then a line for each trial that ended early. Each of these answers whether it was written.
+// refused, `!` and the number; and then a line for each trial that ended early or lost everything. Each of these answers whether it was written.
 use libc::STDOUT_FILENO;
 use options::Cutoffs;
 use step_pass::Step;
@@ -37,12 +37,16 @@ fn shown_at(out: &[u64; 1024], cutoff: usize, step: usize, count: usize) -> Show
     }
 }
 
-// The first step of a trial that was refused; `count` if none was.
-fn first_refused(out: &[u64; 1024], cutoff: usize, count: usize) -> usize {
+// Whether a trial has nothing to show after this: the step was refused, or no entry is left.
+fn is_end(s: Shown) -> bool {
+    s.number != 0 || s.entries == 0
+}
+
+// The first step of a trial of which that is so; `count` if there is none.
+fn first_end(out: &[u64; 1024], cutoff: usize, count: usize) -> usize {
     let mut step: usize = 0;
     while step < count {
-        let s = shown_at(out, cutoff, step, count);
-        if s.number != 0 {
+        if is_end(shown_at(out, cutoff, step, count)) {
             return step;
         }
         step += 1;
@@ -128,10 +132,10 @@ fn write_rows(steps: [Step; 64], count: usize, cutoffs: usize, out: &[u64; 1024]
     true
 }
 
-// ---- the trials that ended early
+// ---- the trials that ended early or lost everything
 
-// The row up to what the number means.
-fn put_refused(
+// The row up to what is said of the step.
+fn put_ended(
     row: &mut [u8; 256],
     list: &[u8],
     c: Cutoffs,
@@ -147,18 +151,31 @@ fn put_refused(
     at = printing::put_digits(row, at, step.line);
     at = printing::put(row, at, b", qubit ");
     at = printing::put_digits(row, at, step.qubit as u64);
-    printing::put(row, at, b") was refused with ")
+    printing::put(row, at, b") ")
 }
 
 // Cutoff i, whose trial ended with a step that was given this number.
 fn write_refused(list: &[u8], c: Cutoffs, i: usize, at: usize, step: Step, number: u64) -> bool {
     let mut row = printing::row();
-    let digits = put_refused(&mut row, list, c, i, passes::next(at as u64), step);
+    let said = put_ended(&mut row, list, c, i, passes::next(at as u64), step);
+    let digits = printing::put(&mut row, said, b"was refused with ");
     let colon = printing::put_digits(&mut row, digits, number);
     let end = printing::put(&mut row, colon, b": ");
     printing::write_up_to(STDOUT_FILENO, &row, end)
         && messages::write_number(STDOUT_FILENO, number)
         && io::write_all(STDOUT_FILENO, b"\n")
+}
+
+// .. whose trial has no entry from a step on: a count of 0 alone would not say so.
+fn write_empty(list: &[u8], c: Cutoffs, i: usize, at: usize, step: Step) -> bool {
+    let mut row = printing::row();
+    let said = put_ended(&mut row, list, c, i, passes::next(at as u64), step);
+    let end = printing::put(
+        &mut row,
+        said,
+        b"ends with no entry: all of the weight is lost",
+    );
+    printing::write(STDOUT_FILENO, &mut row, end)
 }
 
 fn write_end(
@@ -169,11 +186,14 @@ fn write_end(
     count: usize,
     out: &[u64; 1024],
 ) -> bool {
-    let at = first_refused(out, i, count);
+    let at = first_end(out, i, count);
     if at < count {
         if at < 64 {
             let step = steps[at];
             let s = shown_at(out, i, at, count);
+            if s.number == 0 {
+                return write_empty(list, c, i, at, step);
+            }
             return write_refused(list, c, i, at, step, s.number);
         }
     }

@@ -50,7 +50,8 @@ planOf s threshold cutoffs channels qubits count =
 
 -- ---- a trial
 
--- 'Each trial starts from a fresh sum', in the store of words w
+-- 'Each trial starts from a fresh sum', in a store of words w. An accepted fresh call writes every word, so here and below w are those before the first trial, and what
+-- the trial before it left in the store does not matter (crates/trials proves it: the code has one store for all trials)
 abbrev pub freshOf : Plan → Float → Start
 freshOf p cutoff = fresh (p .size) (p .threshold) cutoff
 

@@ -1,8 +1,8 @@
--- `entries_table::first_refused` is safe and ends. Assumes nothing.
+-- `entries_table::first_end` is safe and ends. Assumes nothing.
 use Prim.Native.Nat.{_-_, _≤_}
 use borrow.Author.Needs.{needs}
-use Rattle.entries_table.proofs.first_refused.Statement.{statement}
-use Rattle.entries_table.proofs.first_refused.Tie as tie
+use Rattle.entries_table.proofs.first_end.Statement.{statement}
+use Rattle.entries_table.proofs.first_end.Tie as tie
 
 abbrev Inv-loop : tie.InvT-loop
 Inv-loop out cutoff count step₀ step = step ≤ count
@@ -15,6 +15,9 @@ loop-holds c = search needs
 
 shown-at-requires : tie.Need-shown-at-requires Inv-loop μ-loop
 shown-at-requires c κs = search needs
+
+is-end-requires : tie.Need-is-end-requires Inv-loop μ-loop
+is-end-requires c κs = search needs
 
 returns : tie.Need-returns Inv-loop μ-loop
 returns c = search needs
@@ -31,14 +34,15 @@ loop-again c = search needs
 returns-2 : tie.Need-returns-2 Inv-loop μ-loop
 returns-2 c = search needs
 
-pub first-refused-spec : {M : Type 1} → statement M
-first-refused-spec =
+pub first-end-spec : {M : Type 1} → statement M
+first-end-spec =
     tie.close
     (tie.spec
     Inv-loop
     μ-loop
     loop-holds
     shown-at-requires
+    is-end-requires
     returns
     add-step
     loop-less
