@@ -173,9 +173,9 @@ fn write_empty(list: &[u8], c: Cutoffs, i: usize, at: usize, step: Step) -> bool
     let end = printing::put(
         &mut row,
         said,
-        b"ends with no entry: all of the weight is lost",
+        b"ends with no entry: all of the weight is lost\n",
     );
-    printing::write(STDOUT_FILENO, &mut row, end)
+    printing::write_up_to(STDOUT_FILENO, &row, end)
 }
 
 fn write_end(
