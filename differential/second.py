@@ -2,8 +2,8 @@
 """A second program for document 01, and for the requests of document 02 that are built.
 
 Masks, keys, likeness, merging, channels, reset, gates, truncate, normalise and fresh were written from document 01's text; of the code
-only the calls' names, arguments and contracts were known. The table, the pick, the view, the sheet, written and read, the page and the
-trials were written with the code known, so they show slips more than misreadings.
+only the calls' names, arguments and contracts were known. The table, the pick, the view, the sheet, written and read, the page, the
+trials and the lookup were written with the code known, so they show slips more than misreadings.
 
 A sum is a header and a list of 64-bit words, laid out as "Store words" says. Each call takes both and gives the number,
 the header, the four counts, the weights that were lost and the words as they are afterwards; a refused call gives back what it was given.
@@ -188,15 +188,22 @@ def refused(number, header, words):
 # Point 2: likeness.
 
 
+def looked_up(coefficients, index):
+    """The value at an index, 0 + 0i if there is none, and how many were read for it: from the last one down to the first hit."""
+    for read, (at, re, im) in enumerate(reversed(coefficients), 1):
+        if at == index:
+            return (re, im), read
+    return (0.0, 0.0), len(coefficients)
+
+
 def alike(existing, other, threshold):
     if existing.loss != other.loss or len(existing.coefficients) != len(other.coefficients):
         return False
     if existing.rows != other.rows:
         return False
     limit = threshold * threshold
-    value_at = {index: (re, im) for index, re, im in other.coefficients}  # the last one, if repeated
     for index, re, im in existing.coefficients:
-        other_re, other_im = value_at.get(index, (0.0, 0.0))
+        (other_re, other_im), _ = looked_up(other.coefficients, index)
         re, im = re - other_re, im - other_im
         if not re * re + im * im < limit:
             return False
@@ -639,7 +646,7 @@ def try_cutoffs(n, k, capacity, threshold, cutoffs, steps, words, room):
     return Answer(0, a.header, NO_COUNTS, NO_LOSS, words), shown
 
 
-PROGRAMS = ("masks_run", "view_run", "replay", "list_run", "trials_run", "planner", "every_call")
+PROGRAMS = ("masks_run", "view_run", "lookup_run", "replay", "list_run", "trials_run", "planner", "every_call")
 
 
 def main(name, given_to=None):

@@ -26,9 +26,9 @@
  *
  * WHAT IS PROMISED, by proof. Whatever the numbers, headers and words are, a call ends, touches the slices only inside their lengths,
  * and gives exactly what document 01 of the project says; tableau_sum_write_page and tableau_sum_try_cutoffs, what requests 1 and 2 of
- * document 02 say (the others are not built); tableau_sum_run, what its calls give one after the other. For a sum that was begun by
- * tableau_sum_fresh, tableau_sum_read_sheet or tableau_sum_try_cutoffs, and whose header and store nothing but these calls has written
- * since, no branch misses an equal entry because of stale keys.
+ * document 02 say (request 3 changes no call; the others are not built); tableau_sum_run, what its calls give one after the other. For a
+ * sum that was begun by tableau_sum_fresh, tableau_sum_read_sheet or tableau_sum_try_cutoffs, and whose header and store nothing but these
+ * calls has written since, no branch misses an equal entry because of stale keys.
  *
  * Calls on different stores may run at the same time in different threads.
  */

@@ -14,7 +14,8 @@ use Rattle.model.specs.Entries.{Body, indexAt, reAt, imAt}
 use Rattle.model.specs.Likeness.{valueAt, square, nearAt}
 use Rattle.likeness.specs.Rising.{Rises}
 use Rattle.likeness.specs.Same.{SameFinite}
-use Rattle.likeness.proofs.Rising.{value-rising}
+use Rattle.likeness.proofs.Rising.{hit-rising}
+use Rattle.likeness.proofs.Value.{value-hit}
 
 -- the two parts are level, and what is left of them has the sign of 0
 level : (s : Bool) (a c : ℕ) → 0 < c → sum binary64 s a (not s) a c ≡ float 0
@@ -48,7 +49,7 @@ pub compared-same : (limit : Float) (a b : Body) (j : ℕ) {x y : List ℕ} {cou
     → a .coefs ≡ x → b .coefs ≡ y → b .count ≡ count → Rises y count j → SameFinite x y j
     → lt (float 0) limit ≡ nearAt limit a b j
 compared-same limit a b j {x} {y} {count} ea eb ec r h =
-    let value : (part : List ℕ → ℕ → ℕ) → valueAt part y (indexAt x j) count ≡ part y j = λ part. ap (λ (i : ℕ). valueAt part y i count) (h .index) ∙ value-rising y count (r .1) part j count (r .0) (omega arith) in
+    let value : (part : List ℕ → ℕ → ℕ) → valueAt part y (indexAt x j) count ≡ part y j = λ part. ap (λ (i : ℕ). valueAt part y i count) (h .index) ∙ value-hit part y (indexAt y j) count j (hit-rising y count (r .1) j (r .0)) in
     ap (λ (z : Float). lt z limit) (sym no-distance)
     ∙ sym (ap₂ (λ (p q : Float). lt (plus (square p) (square q)) limit) (less-itself (float (reAt y j)) (h .re-finite)) (less-itself (float (imAt y j)) (h .im-finite)))
     ∙ compared limit a b j ea eb ec (ap float (sym (h .re))) (ap float (sym (h .im))) (ap float (sym (value reAt))) (ap float (sym (value imAt)))

@@ -1,16 +1,16 @@
--- Where indices rise, the value at the index of coefficient j is that of coefficient j. Assumes nothing.
-use mathlib.Core.Path.{_≡_, ap, _∙_, sym}
-use mathlib.Core.Bool.{true, cond}
+-- Where indices rise, coefficient j is the only one with its index: the hit of a lookup. Assumes nothing.
+use mathlib.Core.Path.{_≡_, refl}
+use mathlib.Core.Bool.{true}
 use mathlib.Core.List.{List}
 use mathlib.Core.Logic.{⊎-elim}
-use Prim.Native.Nat.{ℕ, zero, suc, _+_, _-_, _<_, _≤_}
+use Prim.Native.Nat.{ℕ, zero, suc, _+_, _-_, _<_}
 use native.Mathlib.Nat.{eq-or-lt-of-le, le-of-suc-le-suc, not-suc-le-zero}
 use native.Mathlib.Numerals.{add-one}
 use native.Mathlib.Omega.{arith}
 use lib.Dec.{ltb}
-use borrow.Author.Tests.{ltb-true, eq-eqb, ne-eqb}
+use borrow.Author.Tests.{ltb-true}
 use Rattle.model.specs.Entries.{indexAt}
-use Rattle.model.specs.Likeness.{valueAt}
+use Rattle.model.specs.Likeness.{Hit}
 use Rattle.model.proofs.Lists.{all-at}
 use Rattle.likeness.specs.Rising.{rising}
 
@@ -25,11 +25,5 @@ module _ (coefs : List ℕ) (count : ℕ) (h : rising coefs count ≡ true) wher
   below j (suc k) l m =
       ⊎-elim (λ (e : j ≡ k). rw e (next k m)) (λ (w : j < k). omega (arith, below j k w (omega arith), next k m)) (eq-or-lt-of-le (le-of-suc-le-suc l))
 
-  pub value-rising : (part : List ℕ → ℕ → ℕ) (j c : ℕ) → j < c → c ≤ count → valueAt part coefs (indexAt coefs j) c ≡ part coefs j
-  unfolding valueAt
-  value-rising part j zero l m = absurd (not-suc-le-zero l)
-  value-rising part j (suc c) l m =
-      ⊎-elim
-      (λ (e : j ≡ c). rw (valueAt, eq-eqb (indexAt coefs c) (indexAt coefs j) (ap (indexAt coefs) (sym e))) (ap (part coefs) (sym e)))
-      (λ (w : j < c). rw (valueAt, ne-eqb (indexAt coefs c) (indexAt coefs j) (λ e. absurd (omega (arith, below j c w m)))) (value-rising part j c w (omega arith)))
-      (eq-or-lt-of-le (le-of-suc-le-suc l))
+  pub hit-rising : (j : ℕ) → j < count → Hit coefs (indexAt coefs j) count j
+  hit-rising j l = record { counted = l; index = refl; first = λ k a b e. absurd (omega (arith, e, below j k a b)) }

@@ -1,36 +1,78 @@
--- The walk for the value at an index, from the last coefficient back: passing one with another index leaves the value as it is, and the
--- first hit is the value. Assumes nothing.
-use mathlib.Core.Path.{_≡_, _∙_}
-use Prim.Native.Nat.{ℕ, suc, _+_, _-_, _<_, _≤_}
+-- The lookup of a value, from the last coefficient down: what the walk has passed, where it leaves, and that what it returns with is the
+-- value of likeness. Assumes nothing.
+use mathlib.Core.Path.{_≡_, refl, sym, ap, _∙_}
 use mathlib.Core.List.{List}
-use native.Mathlib.Nat.{sub-zero}
+use mathlib.Core.Logic.{⊎-elim}
+use Prim.Native.Nat.{ℕ, zero, suc, _+_, _-_, _<_, _≤_}
+use native.Mathlib.Nat.{eq-or-lt-of-le, le-antisymm, le-of-suc-le-suc, lt-of-not-le, not-suc-le-zero}
 use native.Mathlib.Omega.{arith}
+use lib.Ieee.{Float}
 use borrow.Author.Tests.{eq-eqb, ne-eqb}
-use Rattle.model.specs.Floats.{zeroBits}
-use Rattle.model.specs.Entries.{indexAt}
-use Rattle.model.specs.Likeness.{valueAt}
+use Rattle.model.specs.Floats.{float, zeroBits}
+use Rattle.model.specs.Entries.{indexAt, reAt, imAt}
+use Rattle.model.specs.Likeness.{valueAt, Hit, NoHit, LookedUp, hit, none}
 
--- the value is that of the coefficients not passed yet
-abbrev pub Passed : List ℕ → ℕ → ℕ → ℕ → Type 0
-Passed coefs i count passed = (part : List ℕ → ℕ → ℕ) → valueAt part coefs i count ≡ valueAt part coefs i (count - passed)
+-- ---- the walk
+
+-- none of the coefficients read so far is a hit
+pub record Passed (coefs : List ℕ) (i count read : ℕ) : Type 0 where
+  pub missed : (l : ℕ) → count - read ≤ l → l < count → indexAt coefs l ≡ i → ⊥
 
 module _ (coefs : List ℕ) (i count : ℕ) where
   pub passed-none : Passed coefs i count 0
-  passed-none part = rw sub-zero
+  passed-none = record { missed = λ l a b e. absurd (omega arith) }
 
-  module _ (passed : ℕ) (p : Passed coefs i count passed) where
-    left : passed < count → count - passed ≡ suc (count - (passed + 1))
-    left l = omega arith
+  module _ (read : ℕ) (p : Passed coefs i count read) where
+    pub passed-more : read < count → (indexAt coefs (count - (read + 1)) ≡ i → ⊥) → Passed coefs i count (read + 1)
+    passed-more more h =
+        record {
+          missed =
+              λ l a b e.
+              ⊎-elim (λ (s : count - (read + 1) ≡ l). h (ap (indexAt coefs) s ∙ e)) (λ (w : count - (read + 1) < l). p .missed l (omega arith) b e) (eq-or-lt-of-le a);
+        }
 
-    pub passed-more : passed < count → (indexAt coefs (count - (passed + 1)) ≡ i → ⊥) → Passed coefs i count (passed + 1)
-    unfolding valueAt
-    passed-more l h part = p part ∙ rw (left l, valueAt, ne-eqb (indexAt coefs (count - (passed + 1))) i)
+    pub passed-hit : read < count → indexAt coefs (count - (read + 1)) ≡ i → Hit coefs i count (count - (read + 1))
+    passed-hit more h = record { counted = omega arith; index = h; first = λ l a b e. p .missed l (omega arith) b e }
 
-    pub passed-hit : passed < count → indexAt coefs (count - (passed + 1)) ≡ i → (part : List ℕ → ℕ → ℕ)
-        → valueAt part coefs i count ≡ part coefs (count - (passed + 1))
-    unfolding valueAt
-    passed-hit l h part = p part ∙ rw (left l, valueAt, eq-eqb (indexAt coefs (count - (passed + 1))) i)
+    pub passed-all : count ≤ read → NoHit coefs i count
+    passed-all all l b e = p .missed l (omega arith) b e
 
-    pub passed-all : count ≤ passed → (part : List ℕ → ℕ → ℕ) → valueAt part coefs i count ≡ zeroBits
-    unfolding valueAt
-    passed-all l part = let none : count - passed ≡ 0 = omega arith in p part ∙ rw none
+-- ---- what it returns with
+
+hit-once : {coefs : List ℕ} {i c j k : ℕ} → Hit coefs i c j → Hit coefs i c k → j ≡ k
+hit-once {coefs} {i} {c} {j} {k} h g =
+    le-antisymm
+    (le-of-suc-le-suc (lt-of-not-le (λ (w : k < j). g .first j w (h .counted) (h .index))))
+    (le-of-suc-le-suc (lt-of-not-le (λ (w : j < k). h .first k w (g .counted) (g .index))))
+
+module _ (part : List ℕ → ℕ → ℕ) (coefs : List ℕ) (i : ℕ) where
+  -- a hit among c + 1 coefficients that is not the last of them is one among c
+  shorter : (c j : ℕ) → Hit coefs i (suc c) j → j < c → Hit coefs i c j
+  shorter c j h l = record { counted = l; index = h .index; first = λ k a b e. h .first k a (omega arith) e }
+
+  pub value-hit : (c j : ℕ) → Hit coefs i c j → valueAt part coefs i c ≡ part coefs j
+  unfolding valueAt
+  value-hit zero j h = absurd (not-suc-le-zero (h .counted))
+  value-hit (suc c) j h =
+      ⊎-elim
+      (λ (e : j ≡ c). rw (valueAt, eq-eqb (indexAt coefs c) i (ap (indexAt coefs) (sym e) ∙ h .index)) (ap (part coefs) (sym e)))
+      (λ (w : j < c). rw (valueAt, ne-eqb (indexAt coefs c) i (h .first c w (omega arith))) (value-hit c j (shorter c j h w)))
+      (eq-or-lt-of-le (le-of-suc-le-suc (h .counted)))
+
+  pub value-none : (c : ℕ) → NoHit coefs i c → valueAt part coefs i c ≡ zeroBits
+  unfolding valueAt
+  value-none zero h = refl
+  value-none (suc c) h = rw (valueAt, ne-eqb (indexAt coefs c) i (h c (omega arith))) (value-none c (λ l a e. h l (omega arith) e))
+
+module _ {coefs : List ℕ} {i c : ℕ} {re im : Float} {read : ℕ} where
+  -- its value is the value of likeness
+  pub looked-up : LookedUp coefs i c re im read → (re ≡ float (valueAt reAt coefs i c)) × (im ≡ float (valueAt imAt coefs i c))
+  looked-up (hit j h r m n) = (r ∙ ap float (sym (value-hit reAt coefs i c j h)), m ∙ ap float (sym (value-hit imAt coefs i c j h)))
+  looked-up (none h r m n) = (r ∙ ap float (sym (value-none reAt coefs i c h)), m ∙ ap float (sym (value-none imAt coefs i c h)))
+
+  -- and how many were read is one number: there are no two first hits
+  pub read-once : {re′ im′ : Float} {read′ : ℕ} → LookedUp coefs i c re im read → LookedUp coefs i c re′ im′ read′ → read ≡ read′
+  read-once (hit j h r m n) (hit k g r′ m′ n′) = n ∙ ap (λ (l : ℕ). c - l) (hit-once h g) ∙ sym n′
+  read-once (hit j h r m n) (none g r′ m′ n′) = absurd (g j (h .counted) (h .index))
+  read-once (none h r m n) (hit k g r′ m′ n′) = absurd (h k (g .counted) (g .index))
+  read-once (none h r m n) (none g r′ m′ n′) = n ∙ sym n′

@@ -11,6 +11,6 @@ use Rattle.model.specs.Entries.{indexAt}
 unfoldable pub rising : List ℕ → ℕ → Bool
 rising coefs count = allBelow (λ j. ltb (indexAt coefs j) (indexAt coefs (j + 1))) (count - 1)
 
--- what is asked of place j where the short way is taken
+-- coefficient j is one of them: no other one has its index
 abbrev pub Rises : List ℕ → ℕ → ℕ → Type 0
 Rises coefs count j = (j < count) × (rising coefs count ≡ true)

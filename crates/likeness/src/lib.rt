@@ -4,35 +4,41 @@ ghost use mathlib.Core.Bool.{true};
 ghost use Prim.Native.Nat.{_+_, _*_, _≤_};
 ghost use lib.ListN.{length};
 ghost use Rattle.model.specs.Floats.{float, finite};
-ghost use Rattle.model.specs.Entries.{Body, reAt, imAt};
-ghost use Rattle.model.specs.Likeness.{valueAt, nearAt};
+ghost use Rattle.model.specs.Entries.{Body};
+ghost use Rattle.model.specs.Likeness.{LookedUp, nearAt};
 ghost use Rattle.likeness.specs.Rising.{rising, Rises};
 ghost use Rattle.likeness.specs.Same.{SameFinite};
 
-// A complex number.
-pub struct Amplitude {
+// What a lookup returns: the value at an index, and how many coefficients it read for that.
+pub struct Lookup {
     pub re: f64,
     pub im: f64,
+    pub read: usize,
 }
 
-// The value at an index among the first `count` coefficients: the last one, if repeated; 0 if absent. The walk goes from the
-// last coefficient to the first, so the first hit is the one that counts.
-pub fn value_at(coefs: &[u64], count: usize, index: u64) -> Amplitude
+// The value at an index among the first `count` coefficients: the last one, if repeated; 0 if absent. The walk goes from the last of
+// these down and leaves at the first hit.
+pub fn value_at(coefs: &[u64], count: usize, index: u64) -> Lookup
     requires { ⌜ 3 * count ≤ length (now coefs) ⌝ }
-    ensures { λ r. ⌜ (r .re ≡ float (valueAt reAt (now (coefs .entry)) index count)) × (r .im ≡ float (valueAt imAt (now (coefs .entry)) index count)) ⌝ }
+    ensures { λ r. ⌜ LookedUp (now (coefs .entry)) index count (r .re) (r .im) (r .read) ⌝ }
 {
-    let mut passed = 0;
-    while passed < count {
-        passed += 1;
-        let at = 3 * (count - passed);
+    let mut read = 0;
+    while read < count {
+        read += 1;
+        let at = 3 * (count - read);
         if coefs[at] == index {
-            return Amplitude {
+            return Lookup {
                 re: words::float_of(coefs[at + 1]),
                 im: words::float_of(coefs[at + 2]),
+                read,
             };
         }
     }
-    Amplitude { re: 0.0, im: 0.0 }
+    Lookup {
+        re: 0.0,
+        im: 0.0,
+        read,
+    }
 }
 
 // The indices of the first `count` coefficients rise, so none is repeated.
@@ -49,24 +55,6 @@ pub fn indices_rise(coefs: &[u64], count: usize) -> bool
         }
     }
     true
-}
-
-// `value_at`, by a short way where the indices rise and coefficient j has the index.
-pub fn value_by(coefs: &[u64], count: usize, index: u64, j: usize, rises: bool) -> Amplitude
-    requires { ⌜ 3 * count ≤ length (now coefs) ⌝ }
-    requires { ⌜ (rises ≡ true → Rises (now coefs) count j) ⌝ }
-    ensures { λ r. ⌜ (r .re ≡ float (valueAt reAt (now (coefs .entry)) index count)) × (r .im ≡ float (valueAt imAt (now (coefs .entry)) index count)) ⌝ }
-{
-    if rises {
-        let at = 3 * j;
-        if coefs[at] == index {
-            return Amplitude {
-                re: words::float_of(coefs[at + 1]),
-                im: words::float_of(coefs[at + 2]),
-            };
-        }
-    }
-    value_at(coefs, count, index)
 }
 
 // The bits are those of a finite number: the exponent's field is not all ones.
@@ -101,7 +89,7 @@ fn same_finite(existing: &[u64], other: &[u64], j: usize) -> bool
 
 // Coefficient j of the existing entry, less the other's value at its index, has re² + im² below the limit. Given are the
 // coefficients of both, how many the other has, and whether its indices are known to rise: it is the answer for any two bodies
-// that have these.
+// that have these. Where they rise and coefficient j is the same in both, word by word, nothing is looked up: the difference is 0.
 pub fn near_by(
     existing: &[u64],
     other: &[u64],
@@ -121,7 +109,7 @@ pub fn near_by(
         }
     }
     let at = 3 * j;
-    let value = value_by(other, count, existing[at], j, rises);
+    let value = value_at(other, count, existing[at]);
     let re = words::float_of(existing[at + 1]) - value.re;
     let im = words::float_of(existing[at + 2]) - value.im;
     re * re + im * im < limit

@@ -52,14 +52,15 @@ pub fn put_word(words: &mut [u64], at: usize, v: u64) {
     }
 }
 
-// The item at a place: its kind and its values, at most 17, then zeros. The place behind it is the answer.
+// The item at a place: its kind and its values, as many as there is room for, then zeros. The place behind it is the answer.
 pub fn read_item(text: &[u8], at: usize, item: &mut [u64]) -> usize {
+    let room = item.len();
     let kind = next(text, at, true);
     let count = next(text, kind.at, true);
     let mut end = count.at;
     let mut i: usize = 1;
     put_word(item, 0, kind.value);
-    while i < 18 {
+    while i < room {
         let v = next(text, end, i as u64 <= count.value);
         put_word(item, i, v.value);
         end = v.at;

@@ -3,6 +3,7 @@
 use native.Mathlib.Omega.{arith}
 use borrow.Author.Needs.{needs}
 use Rattle.likeness.proofs.Near.{compared, compared-same}
+use Rattle.likeness.proofs.Value.{looked-up}
 use Rattle.likeness.proofs.near_by.Statement.{statement}
 use Rattle.likeness.proofs.near_by.Tie as tie
 
@@ -19,14 +20,14 @@ returns c a b ea eb ec =
 mul-at : tie.Need-mul-at
 mul-at c = search needs
 
-mul-value-by : tie.Need-mul-value-by
-mul-value-by c = search needs
+mul-value-at : tie.Need-mul-value-at
+mul-value-at c = search needs
 
-shared-slice-read-value-by : tie.Need-shared-slice-read-value-by
-shared-slice-read-value-by c = search needs
+shared-slice-read-value-at : tie.Need-shared-slice-read-value-at
+shared-slice-read-value-at c = search needs
 
-value-by-requires : tie.Need-value-by-requires
-value-by-requires c κs = search needs
+value-at-requires : tie.Need-value-at-requires
+value-at-requires c κs = search needs
 
 add-float-of : tie.Need-add-float-of
 add-float-of c = search needs
@@ -54,8 +55,8 @@ float-of-requires-2 c κs = search needs
 
 returns-2 : tie.Need-returns-2
 returns-2 c a b ea eb ec =
-    let v = c .before .before .before .before .before .before .value-by in
-    compared _ a b _ ea eb ec (c .before .before .before .before .float-of .ensures) (c .before .float-of2 .ensures) (v .ensures .0) (v .ensures .1)
+    let v = looked-up (c .before .before .before .before .before .before .value-at .ensures) in
+    compared _ a b _ ea eb ec (c .before .before .before .before .float-of .ensures) (c .before .float-of2 .ensures) (v .0) (v .1)
 
 pub near-by-spec : {M : Type 1} → statement M
 near-by-spec =
@@ -64,9 +65,9 @@ near-by-spec =
     same-finite-requires
     returns
     mul-at
-    mul-value-by
-    shared-slice-read-value-by
-    value-by-requires
+    mul-value-at
+    shared-slice-read-value-at
+    value-at-requires
     add-float-of
     mul-float-of
     shared-slice-read-float-of

@@ -1,24 +1,24 @@
--- `likeness::value_at` meets its contract. The loop's invariant: the value is that of the coefficients not passed yet. Assumes nothing.
-use mathlib.Core.Path.{_∙_, sym, ap}
+-- `likeness::value_at` meets its contract. The loop's invariant: none of the coefficients read so far is a hit. Assumes nothing.
+use mathlib.Core.Path.{refl}
 use Prim.Native.Nat.{_≤_, _-_}
+use native.Mathlib.Omega.{arith}
 use borrow.Author.Needs.{needs}
-use Rattle.model.specs.Floats.{float}
-use Rattle.model.specs.Entries.{reAt, imAt}
+use Rattle.model.specs.Likeness.{hit, none}
 use Rattle.likeness.proofs.Value.{Passed, passed-none, passed-more, passed-hit, passed-all}
 use Rattle.likeness.proofs.value_at.Statement.{statement}
 use Rattle.likeness.proofs.value_at.Tie as tie
 
 abbrev Inv-loop : tie.InvT-loop
-Inv-loop coefs count index passed₀ passed = (passed ≤ count) × Passed coefs index count passed
+Inv-loop coefs count index read₀ read = (read ≤ count) × Passed coefs index count read
 
 abbrev μ-loop : tie.MeasureT-loop
-μ-loop coefs count index passed₀ passed = count - passed
+μ-loop coefs count index read₀ read = count - read
 
 loop-holds : tie.Need-loop-holds Inv-loop μ-loop
 loop-holds c = (search needs, passed-none _ _ _)
 
-add-passed : tie.Need-add-passed Inv-loop μ-loop
-add-passed c = search needs
+add-read : tie.Need-add-read Inv-loop μ-loop
+add-read c = search needs
 
 sub-at : tie.Need-sub-at Inv-loop μ-loop
 sub-at c = search needs
@@ -58,10 +58,9 @@ float-of-requires-2 c κs = search needs
 
 returns : tie.Need-returns Inv-loop μ-loop
 returns c =
-    let hit = c .before .before .before .before in
-    let l = hit .before .before .before .loop in
-    let is = passed-hit _ _ _ _ (l .inv .1) (hit .before .before .loop-test .taken) (hit .if1 .taken) in
-    (c .before .before .float-of .ensures ∙ ap float (sym (is reAt)), c .float-of2 .ensures ∙ ap float (sym (is imAt)))
+    let found = c .before .before .before .before in
+    let l = found .before .before .before .loop in
+    hit _ (passed-hit _ _ _ _ (l .inv .1) (found .before .before .loop-test .taken) (found .if1 .taken)) (c .before .before .float-of .ensures) (c .float-of2 .ensures) (omega arith)
 
 loop-less : tie.Need-loop-less Inv-loop μ-loop
 loop-less c = search needs
@@ -73,8 +72,8 @@ loop-again c =
 
 returns-2 : tie.Need-returns-2 Inv-loop μ-loop
 returns-2 c =
-    let ended = passed-all _ _ _ _ (c .before .loop .inv .1) (c .loop-test .left) in
-    (ap float (sym (ended reAt)), ap float (sym (ended imAt)))
+    let l = c .before .loop in
+    none (passed-all _ _ _ _ (l .inv .1) (c .loop-test .left)) refl refl (omega (arith, c .loop-test .left))
 
 pub value-at-spec : {M : Type 1} → statement M
 value-at-spec =
@@ -83,7 +82,7 @@ value-at-spec =
     Inv-loop
     μ-loop
     loop-holds
-    add-passed
+    add-read
     sub-at
     mul-at
     mul-if1

@@ -18,7 +18,7 @@ mod timing;
 mod trials;
 mod turns;
 
-use oracle::{Call, Published, Sum, entry_len};
+use oracle::{Call, Published, Sum, entry_len, rows_at};
 use ours::Ours;
 use std::hint::black_box;
 use std::time::Duration;
@@ -100,6 +100,11 @@ fn rows(n: usize, k: usize, count: usize) -> Vec<Row> {
         row("loss, all stored", &strangers, Timed::Call(Call::Loss(0, 0.1)));
     }
     row("reset, half lost, all merge", &halves, Timed::Call(Call::Reset(0)));
+    if k > 1 {
+        row("Pauli, by lookup", &near(&one), pauli);
+        row("two-qubit Pauli, by lookup", &near(&two), Timed::Call(Call::TwoPauli(0, 1, [0.01; 15])));
+        row("reset, by lookup", &near(&halves), Timed::Call(Call::Reset(0)));
+    }
     row("truncate, none goes", &strangers, Timed::Call(Call::Truncate));
     row("truncate, half goes", &half_light(&strangers), Timed::Call(Call::Truncate));
     row("normalise", &strangers, Timed::Call(Call::Normalise));
@@ -112,6 +117,17 @@ fn rows(n: usize, k: usize, count: usize) -> Vec<Row> {
     row("read sheet", &strangers, Timed::ReadSheet);
     row("write page", &strangers, Timed::WritePage);
     rows
+}
+
+/// The coefficients of any two entries are near but not the same, so that each value is looked up in a comparison.
+fn near(sum: &Sum) -> Sum {
+    let mut s = sum.clone();
+    for (i, e) in s.words.chunks_exact_mut(entry_len(sum.n, sum.k)).enumerate() {
+        for coefficient in e[5..rows_at(sum.k)].chunks_exact_mut(3) {
+            coefficient[1] = (f64::from_bits(coefficient[1]) + 1e-6 * i as f64).to_bits();
+        }
+    }
+    s
 }
 
 /// Every second entry's weight is below the cutoff.

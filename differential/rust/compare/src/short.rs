@@ -1,4 +1,5 @@
-//! One call on every short sum, n 1 and K 1: one entry with any rows, or two with the fresh rows, over a grid of weights and rates.
+//! One call on every short sum, n 1. With K 1: one entry with any rows, or two with the fresh rows, over a grid of weights and rates.
+//! With K 3: two entries that may merge, with any two lists of coefficients.
 
 use crate::draw::{Draw, LEAST};
 use crate::pair::Pair;
@@ -22,7 +23,7 @@ impl Digits {
     }
 }
 
-/// Every `stride`-th of the cases of both kinds.
+/// Every `stride`-th of the cases of each kind.
 pub fn run(stride: usize) {
     let all = calls();
     let one = 4 * 4 * 4 * 4 * 2 * GRID.len() * CUTOFFS.len() * all.len();
@@ -30,6 +31,9 @@ pub fn run(stride: usize) {
     let few = few_calls();
     let two = (9 * 2 * GRID.len()).pow(2) * 3 * CUTOFFS.len() * few.len();
     each("short, two entries", two, stride, |g| (two_entries(g), g.of(&few)));
+    let (lists, merging) = (lists(), [Call::Reset(0), Call::Loss(0, 0.5)]);
+    let pairs = lists.len().pow(2) * merging.len();
+    each("short, coefficients", pairs, stride, |g| (live_and_lost(g.of(&lists), g.of(&lists)), g.of(&merging)));
 }
 
 fn each(part: &str, cases: usize, stride: usize, case: impl Fn(&mut Digits) -> (Ours, Call)) {
@@ -66,27 +70,50 @@ fn few_calls() -> Vec<Call> {
 // ---- sums
 
 /// Its keys are to be rebuilt. Threshold 0.5; room for four entries more.
-fn sum(words: Vec<u64>, cutoff: f64) -> Ours {
-    let count = words.len() / entry_len(1, 1);
-    Ours::holding(&Sum { n: 1, k: 1, threshold: 0.5, cutoff, dirty: true, words }, count + 4)
+fn sum(k: usize, words: Vec<u64>, cutoff: f64) -> Ours {
+    let count = words.len() / entry_len(1, k);
+    Ours::holding(&Sum { n: 1, k, threshold: 0.5, cutoff, dirty: true, words }, count + 4)
 }
 
-fn entry(weight: f64, loss: usize, coefficient: [u64; 4], rows: [usize; 6]) -> Vec<u64> {
-    [vec![weight.to_bits(), loss as u64, 0, 0], coefficient.to_vec(), rows.map(|w| w as u64).to_vec()].concat()
+/// Of the coefficients their count, and K of them.
+fn entry(weight: f64, loss: usize, coefficients: &[u64], rows: [usize; 6]) -> Vec<u64> {
+    [vec![weight.to_bits(), loss as u64, 0, 0], coefficients.to_vec(), rows.map(|w| w as u64).to_vec()].concat()
 }
 
 const ONE: [u64; 4] = [1, 0, 0x3FF0000000000000, 0];
 
 fn one_entry(g: &mut Digits) -> Ours {
     let rows = [g.below(2), g.below(2), g.below(4), g.below(2), g.below(2), g.below(4)];
-    sum(entry(g.of(&GRID), g.below(2), ONE, rows), g.of(&CUTOFFS))
+    sum(1, entry(g.of(&GRID), g.below(2), &ONE, rows), g.of(&CUTOFFS))
 }
 
 /// The second has the first's coefficient, one within the threshold of it, or none.
 fn two_entries(g: &mut Digits) -> Ours {
     let rows = |g: &mut Digits| [1, 0, g.of(&[0, 2, 3]), 0, 1, g.of(&[0, 2, 3])];
-    let first = entry(g.of(&GRID), g.below(2), ONE, rows(g));
+    let first = entry(g.of(&GRID), g.below(2), &ONE, rows(g));
     let second = g.of(&[ONE, [1, 0, 0x3FF4000000000000, 0], [0; 4]]);
-    let second = entry(g.of(&GRID), g.below(2), second, rows(g));
-    sum([first, second].concat(), g.of(&CUTOFFS))
+    let second = entry(g.of(&GRID), g.below(2), &second, rows(g));
+    sum(1, [first, second].concat(), g.of(&CUTOFFS))
+}
+
+/// A live entry and a lost one, else the same but for their coefficients: a reset compares the live one with the other, a loss the lost
+/// one.
+fn live_and_lost(live: [u64; 10], lost: [u64; 10]) -> Ours {
+    let rows = [1, 0, 0, 0, 1, 0];
+    sum(3, [entry(0.5, 0, &live, rows), entry(0.25, 1, &lost, rows)].concat(), 0.0)
+}
+
+/// Every list of at most three coefficients of six: at two indices, of values that are near each other, near 0, or neither.
+fn lists() -> Vec<[u64; 10]> {
+    let six = [(0, 1.0, 0.0), (0, 1.25, 0.0), (0, 0.25, 0.25), (1, 1.0, 0.0), (1, 1.0, 1.0), (1, 0.25, 0.0)];
+    let list = |count: usize, mut number: Digits| {
+        let mut words = [0; 10];
+        words[0] = count as u64;
+        for c in words[1..1 + 3 * count].chunks_exact_mut(3) {
+            let (index, re, im): (u64, f64, f64) = number.of(&six);
+            c.copy_from_slice(&[index, re.to_bits(), im.to_bits()]);
+        }
+        words
+    };
+    (0..4).flat_map(|count| (0..six.len().pow(count as u32)).map(move |number| list(count, Digits(number)))).collect()
 }

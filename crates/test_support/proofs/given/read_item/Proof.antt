@@ -1,16 +1,16 @@
 -- `test_support::given::read_item` is safe and ends. Assumes nothing.
 use mathlib.Core.Path.{_≡_}
-use Prim.Native.Nat.{_-_, _≤_}
+use Prim.Native.Nat.{_-_}
 use lib.ListN.{length}
 use borrow.Author.Needs.{needs}
 use Rattle.test_support.proofs.given.read_item.Statement.{statement}
 use Rattle.test_support.proofs.given.read_item.Tie as tie
 
 abbrev Inv-loop : tie.InvT-loop
-Inv-loop text at item₀ count end₀ i₀ item end i = (i ≤ 18) × (length item ≡ length item₀)
+Inv-loop text at item₀ room count end₀ i₀ item end i = length item ≡ length item₀
 
 abbrev μ-loop : tie.MeasureT-loop
-μ-loop text at item₀ count end₀ i₀ item end i = 18 - i
+μ-loop text at item₀ room count end₀ i₀ item end i = room - i
 
 next-requires : tie.Need-next-requires Inv-loop μ-loop
 next-requires c κs = search needs
