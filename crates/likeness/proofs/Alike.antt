@@ -12,6 +12,7 @@ use Rattle.model.specs.Entries.{Body, rowsLen}
 use Rattle.model.specs.Likeness.{square, nearAt, sameRows, alike}
 use Rattle.model.specs.declared.Size.{Size}
 use Rattle.model.proofs.Lists.{all-none, all-more, all-not}
+use Rattle.likeness.specs.Near.{NearAs, NearBelow}
 
 -- word j of two lists of rows is the same
 abbrev pub sameAt : List ℕ → List ℕ → ℕ → Bool
@@ -37,17 +38,11 @@ module _ (s : Size) (threshold : Float) (a b : Body) where
   alike-all hl hc j m ej em hr hv =
       rw (alike, sameRows, eq-eqb (a .loss) (b .loss), eq-eqb (a .count) (b .count), rw ej at hr, rw em at hv)
 
--- The first m coefficients are near, in any two bodies that have the coefficients given: what a loop over `near_by` has shown so far.
-abbrev pub NearBelow : Float → (existing other : List ℕ) → (count m : ℕ) → Type 0
-NearBelow limit existing other count m =
-    (a b : Body) → a .coefs ≡ existing → b .coefs ≡ other → b .count ≡ count → allBelow (nearAt limit a b) m ≡ true
-
+-- what a loop over `near_at` has shown so far
 module _ (limit : Float) (existing other : List ℕ) (count : ℕ) where
   pub near-none : NearBelow limit existing other count 0
   near-none a b ea eb ec = all-none (nearAt limit a b)
 
-  -- `near` is what `near_by` ensures
-  pub near-more : (m : ℕ) (r : Bool)
-      (near : (a b : Body) → a .coefs ≡ existing → b .coefs ≡ other → b .count ≡ count → r ≡ nearAt limit a b m)
-      → r ≡ true → NearBelow limit existing other count m → NearBelow limit existing other count (m + 1)
+  pub near-more : (m : ℕ) (r : Bool) → NearAs limit existing other count m r → r ≡ true → NearBelow limit existing other count m
+      → NearBelow limit existing other count (m + 1)
   near-more m r near t h a b ea eb ec = all-more (nearAt limit a b) m (h a b ea eb ec) (sym (near a b ea eb ec) ∙ t)

@@ -11,31 +11,39 @@ use borrow.Author.Tests.{eq-eqb, ne-eqb}
 use Rattle.model.specs.Floats.{float, zeroBits}
 use Rattle.model.specs.Entries.{indexAt, reAt, imAt}
 use Rattle.model.specs.Likeness.{valueAt, Hit, NoHit, LookedUp, hit, none}
+use Rattle.likeness.specs.Walk.{Passed}
 
 -- ---- the walk
-
--- none of the coefficients read so far is a hit
-pub record Passed (coefs : List ℕ) (i count read : ℕ) : Type 0 where
-  pub missed : (l : ℕ) → count - read ≤ l → l < count → indexAt coefs l ≡ i → ⊥
 
 module _ (coefs : List ℕ) (i count : ℕ) where
   pub passed-none : Passed coefs i count 0
   passed-none = record { missed = λ l a b e. absurd (omega arith) }
 
-  module _ (read : ℕ) (p : Passed coefs i count read) where
-    pub passed-more : read < count → (indexAt coefs (count - (read + 1)) ≡ i → ⊥) → Passed coefs i count (read + 1)
-    passed-more more h =
+  pub passed-same : (read read′ : ℕ) → read ≡ read′ → Passed coefs i count read → Passed coefs i count read′
+  passed-same read read′ e p = rw e at p
+
+  -- `next` is one more than were read
+  module _ (read next : ℕ) (one : next ≡ read + 1) (l : next ≤ count) (p : Passed coefs i count read) where
+    pub passed-more : (indexAt coefs (count - next) ≡ i → ⊥) → Passed coefs i count next
+    passed-more h =
         record {
           missed =
-              λ l a b e.
-              ⊎-elim (λ (s : count - (read + 1) ≡ l). h (ap (indexAt coefs) s ∙ e)) (λ (w : count - (read + 1) < l). p .missed l (omega arith) b e) (eq-or-lt-of-le a);
+              λ k a b e.
+              ⊎-elim (λ (s : count - next ≡ k). h (ap (indexAt coefs) s ∙ e)) (λ (w : count - next < k). p .missed k (omega (arith, one)) b e) (eq-or-lt-of-le a);
         }
 
-    pub passed-hit : read < count → indexAt coefs (count - (read + 1)) ≡ i → Hit coefs i count (count - (read + 1))
-    passed-hit more h = record { counted = omega arith; index = h; first = λ l a b e. p .missed l (omega arith) b e }
+    pub passed-hit : indexAt coefs (count - next) ≡ i → Hit coefs i count (count - next)
+    passed-hit h = record { counted = omega (arith, one); index = h; first = λ k a b e. p .missed k (omega (arith, one)) b e }
 
-    pub passed-all : count ≤ read → NoHit coefs i count
-    passed-all all l b e = p .missed l (omega arith) b e
+  pub passed-all : (read : ℕ) → Passed coefs i count read → count ≤ read → NoHit coefs i count
+  passed-all read p all l b e = p .missed l (omega arith) b e
+
+-- a hit after so many
+pub hit-after : {coefs : List ℕ} {i count : ℕ} {re im : Float} {read read′ : ℕ}
+    → (0 < read) × (read ≤ count) × Hit coefs i count (count - read)
+    → (re ≡ float (reAt coefs (count - read))) × (im ≡ float (imAt coefs (count - read))) × (read′ ≡ read)
+    → LookedUp coefs i count re im read′
+hit-after (l, m, h) (r, n, e) = hit _ h r n (omega arith)
 
 -- ---- what it returns with
 

@@ -168,10 +168,9 @@ fn coefficients_near(e: &[u64], parent: &[u64], size: Size, threshold: f64) -> b
     let parent_coefs = &parent[5..rows];
     let count = e[4] as usize;
     let limit = threshold * threshold;
-    let rises = likeness::indices_rise(parent_coefs, count);
-    let mut j = 0;
+    let mut j = likeness::near_unread(coefs, parent_coefs, count, limit);
     while j < count {
-        if likeness::near_by(coefs, parent_coefs, count, j, limit, rises) {
+        if likeness::near_at(coefs, parent_coefs, count, j, limit) {
             j += 1;
         } else {
             return false;

@@ -7,18 +7,19 @@ use Rattle.model.specs.Entries.{entryOf, bodyIn}
 use Rattle.model.specs.Likeness.{nearAt, square}
 use Rattle.model.proofs.Lists.{all-not}
 use Rattle.model.proofs.Entries.{coefs-part}
-use Rattle.likeness.proofs.Alike.{NearBelow, near-none, near-more}
+use Rattle.likeness.specs.Near.{NearBelow}
+use Rattle.likeness.proofs.Alike.{near-more}
 use Rattle.seeking.proofs.Rows.{coefs-length}
 use borrow.Author.Needs.{needs}
 use Rattle.seeking.proofs.coefficients_near.Statement.{statement}
 use Rattle.seeking.proofs.coefficients_near.Tie as tie
 
 abbrev Inv-loop : tie.InvT-loop
-Inv-loop e parent threshold rows coefs parent-coefs count limit rises j₀ j =
+Inv-loop e parent threshold rows coefs parent-coefs count limit j₀ j =
     (j ≤ count) × NearBelow limit coefs parent-coefs count j
 
 abbrev μ-loop : tie.MeasureT-loop
-μ-loop e parent threshold rows coefs parent-coefs count limit rises j₀ j =
+μ-loop e parent threshold rows coefs parent-coefs count limit j₀ j =
     count - j
 
 mul-rows : tie.Need-mul-rows Inv-loop μ-loop
@@ -48,22 +49,25 @@ part-parent-coefs-end c = search needs
 shared-slice-read-count : tie.Need-shared-slice-read-count Inv-loop μ-loop
 shared-slice-read-count c = search needs
 
-indices-rise-requires : tie.Need-indices-rise-requires Inv-loop μ-loop
+near-unread-requires : tie.Need-near-unread-requires Inv-loop μ-loop
 unfolding entryOf
-indices-rise-requires c κs =
+near-unread-requires c κs =
     let s = c .before .before .before .before .before .before in
-    omega (arith, s .pre .1 .0, s .pre .1 .1, coefs-length (s .args .size) (now (s .args .parent)) (s .pre .0 .2))
+    let a = s .args in (
+      omega (arith, s .pre .1 .0, s .pre .1 .1, coefs-length (a .size) (now (a .e)) (s .pre .0 .1)),
+      omega (arith, s .pre .1 .0, s .pre .1 .1, coefs-length (a .size) (now (a .parent)) (s .pre .0 .2)),
+    )
 
 loop-holds : tie.Need-loop-holds Inv-loop μ-loop
-loop-holds c = (omega arith, near-none _ _ _ _)
+loop-holds c = c .near-unread .ensures
 
-near-by-requires : tie.Need-near-by-requires Inv-loop μ-loop
+near-at-requires : tie.Need-near-at-requires Inv-loop μ-loop
 unfolding entryOf
-near-by-requires c κs =
+near-at-requires c κs =
     let s = c .before .before .before .before .before .before .before .before .before in
     let a = s .args in (
       omega (arith, s .pre .1 .0, s .pre .1 .1, c .loop-test .taken, coefs-length (a .size) (now (a .e)) (s .pre .0 .1)),
-      (omega (arith, s .pre .1 .0, s .pre .1 .1, coefs-length (a .size) (now (a .parent)) (s .pre .0 .2)), λ h. (c .loop-test .taken, sym (c .before .before .indices-rise .ensures) ∙ h)),
+      omega (arith, s .pre .1 .0, s .pre .1 .1, coefs-length (a .size) (now (a .parent)) (s .pre .0 .2)),
     )
 
 add-j : tie.Need-add-j Inv-loop μ-loop
@@ -76,7 +80,7 @@ loop-less c = search needs
 loop-again : tie.Need-loop-again Inv-loop μ-loop
 loop-again c =
     let l = c .before .before .before .loop in
-    (omega (arith, c .before .before .loop-test .taken), near-more _ _ _ _ (l .j) _ (c .before .near-by .ensures) (c .if1 .taken) (l .inv .1))
+    (omega (arith, c .before .before .loop-test .taken), near-more _ _ _ _ (l .j) _ (c .before .near-at .ensures) (c .if1 .taken) (l .inv .1))
 
 returns : tie.Need-returns Inv-loop μ-loop
 unfolding entryOf
@@ -84,7 +88,7 @@ returns c =
     let s = c .before .before .before .before .before .before .before .before .before .before .before in
     let a = s .args in
     let l = c .before .before .before .loop in
-    let near = c .before .near-by .ensures (bodyIn (a .size) (now (a .e))) (bodyIn (a .size) (now (a .parent))) (coefs-part (a .size) (now (a .e))) (coefs-part (a .size) (now (a .parent))) (sym (s .pre .1 .0)) in
+    let near = c .before .near-at .ensures (bodyIn (a .size) (now (a .e))) (bodyIn (a .size) (now (a .parent))) (coefs-part (a .size) (now (a .e))) (coefs-part (a .size) (now (a .parent))) (sym (s .pre .1 .0)) in
     sym (all-not (nearAt (square (a .threshold)) (bodyIn (a .size) (now (a .e))) (bodyIn (a .size) (now (a .parent)))) (bodyIn (a .size) (now (a .e)) .count) (l .j) (c .before .before .loop-test .taken) (sym near ∙ c .if1 .left))
 
 returns-2 : tie.Need-returns-2 Inv-loop μ-loop
@@ -111,9 +115,9 @@ coefficients-near-spec =
     part-parent-coefs-start
     part-parent-coefs-end
     shared-slice-read-count
-    indices-rise-requires
+    near-unread-requires
     loop-holds
-    near-by-requires
+    near-at-requires
     add-j
     loop-less
     loop-again

@@ -2,7 +2,7 @@
 //!
 //!     compare differences            what docs/DIFFERENCES.md says the Rust does where we refuse
 //!     compare limits                 each limit and its neighbour
-//!     compare short STRIDE           one call on every STRIDE-th of the short sums, n 1
+//!     compare short STRIDE           one call on every STRIDE-th of the short sums, n 1, and of the pairs of short coefficient lists
 //!     compare random CALLS SEED      lists of random calls
 //!     compare list SEED NUMBER       one of these lists again
 //!     compare trials STEPS SEED      trials of random cutoffs, beside the same calls made one by one

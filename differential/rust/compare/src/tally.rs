@@ -38,8 +38,9 @@ impl Tally {
 
     pub fn print(&self, part: &str) {
         let numbers: Vec<String> = (1..11).filter(|&n| self.refused[n] > 0).map(|n| format!("{n}: {}", self.refused[n])).collect();
+        let numbers = if numbers.is_empty() { "none".to_string() } else { numbers.join(", ") };
         let [merged, stored, dropped, compared] = self.counts;
-        println!("{part}: {} calls agree; {} accepted, then looked at; refused {}", self.calls, self.refused[0], numbers.join(", "));
+        println!("{part}: {} calls agree; {} accepted, then looked at; refused {numbers}", self.calls, self.refused[0]);
         println!("    branches merged {merged}, stored {stored}, dropped {dropped}; full comparisons {compared}");
         println!("    weight was dropped by {} calls, truncated by {}", self.lost[0], self.lost[1]);
     }

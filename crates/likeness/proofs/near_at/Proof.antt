@@ -1,21 +1,9 @@
--- `likeness::near_by` meets its contract. The comparison is the definition's, on what the calls ensure; of a coefficient that is the same
--- in both it is known. Assumes nothing.
-use native.Mathlib.Omega.{arith}
+-- `likeness::near_at` meets its contract: the comparison is the definition's, on what the calls ensure. Assumes nothing.
 use borrow.Author.Needs.{needs}
-use Rattle.likeness.proofs.Near.{compared, compared-same}
+use Rattle.likeness.proofs.Near.{compared}
 use Rattle.likeness.proofs.Value.{looked-up}
-use Rattle.likeness.proofs.near_by.Statement.{statement}
-use Rattle.likeness.proofs.near_by.Tie as tie
-
-same-finite-requires : tie.Need-same-finite-requires
-same-finite-requires c κs =
-    let a = c .before .before .before in
-    (search needs, omega (arith, a .pre .1 .1 (c .if1 .taken) .0))
-
-returns : tie.Need-returns
-returns c a b ea eb ec =
-    let then = c .before .before in
-    compared-same _ a b _ ea eb ec (then .before .before .before .pre .1 .1 (then .if1 .taken)) (c .before .same-finite .ensures (c .if2 .taken))
+use Rattle.likeness.proofs.near_at.Statement.{statement}
+use Rattle.likeness.proofs.near_at.Tie as tie
 
 mul-at : tie.Need-mul-at
 mul-at c = search needs
@@ -53,17 +41,15 @@ shared-slice-read-float-of-2 c = search needs
 float-of-requires-2 : tie.Need-float-of-requires-2
 float-of-requires-2 c κs = search needs
 
-returns-2 : tie.Need-returns-2
-returns-2 c a b ea eb ec =
+returns : tie.Need-returns
+returns c a b ea eb ec =
     let v = looked-up (c .before .before .before .before .before .before .value-at .ensures) in
     compared _ a b _ ea eb ec (c .before .before .before .before .float-of .ensures) (c .before .float-of2 .ensures) (v .0) (v .1)
 
-pub near-by-spec : {M : Type 1} → statement M
-near-by-spec =
+pub near-at-spec : {M : Type 1} → statement M
+near-at-spec =
     tie.close
     (tie.spec
-    same-finite-requires
-    returns
     mul-at
     mul-value-at
     shared-slice-read-value-at
@@ -76,4 +62,4 @@ near-by-spec =
     mul-float-of-2
     shared-slice-read-float-of-2
     float-of-requires-2
-    returns-2)
+    returns)
