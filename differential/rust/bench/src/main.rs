@@ -161,7 +161,7 @@ fn measure(row: &Row, capacity: usize, span: Duration) -> Measured {
     let bytes = start.write_sheet(&mut text).length;
     let sheet = text[..bytes].to_vec();
     let (mut ours, mut theirs, mut check, mut read) = (Runs::new(), Runs::new(), Runs::new(), Runs::new());
-    let mut moved = row.name.starts_with("reset").then(Runs::new);
+    let mut moved = row.name.starts_with("reset, half").then(Runs::new);
     let kept = Ours { header: ours::Header { cutoff: 0.0, ..start.header }, ..start.clone() };
     for _ in 0..TURNS {
         check.add(span, || kept.clone(), |o| o.call(Call::Truncate));
