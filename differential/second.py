@@ -189,7 +189,7 @@ def refused(number, header, words):
 
 
 def looked_up(coefficients, index):
-    """The value at an index, 0 + 0i if there is none, and how many were read for it: from the last one down to the first hit."""
+    """Document 02, request 3: the value at an index, 0 + 0i if there is none, and how many were read for it, from the last one down."""
     for read, (at, re, im) in enumerate(reversed(coefficients), 1):
         if at == index:
             return (re, im), read
