@@ -6,8 +6,8 @@ from second import *
 
 N, K, CAPACITY = 2, 2, 64
 RATES = [(i + 1) / 256 for i in range(15)]
-# Of a list: the calls that there is room for, the words of a record, with what it can show, and the bytes of a stretch of text.
-MOST, RECORD, TEXT = 16, 11 + 581, 127 + CAPACITY * (1 + K + 2 * N) * 64
+# Of a list: the calls that there is room for, and the bytes of a stretch of text; what is in both before it.
+MOST, TEXT, PAINT = 16, 127 + CAPACITY * (1 + K + 2 * N) * 64, 7
 
 
 def digest(words):
@@ -49,11 +49,18 @@ class Made:
         return numbers + self.words
 
 
-def laid(parts, stretch, paint):
-    """Each part at the start of its stretch; the paint shows behind it."""
-    for i, part in enumerate(parts):
-        paint[i * stretch : i * stretch + len(part)] = part
-    return digest(paint)
+def digest_records(records):
+    """By the digests of all records, each without the paint at its end: the same however much room a record has."""
+    for record in records:
+        while record and record[-1] == PAINT:
+            record.pop()
+    return digest([*map(digest, records), *[digest([])] * (MOST - len(records))])
+
+
+def digest_texts(texts):
+    """Each at the start of its stretch; the paint shows behind it."""
+    stretches = [text + bytes([PAINT]) * (TEXT - len(text)) for text in texts]
+    return digest(b"".join([*stretches, bytes([PAINT]) * TEXT * (MOST - len(texts))]))
 
 
 class Sum:
@@ -143,9 +150,7 @@ class Sum:
 
     def run(self, number, made):
         self.list_told("run", number, len(made))
-        records = laid([m.record() for m in made], RECORD, list(range(MOST * RECORD)))
-        text = laid([m.text for m in made], TEXT, [7] * (MOST * TEXT))
-        print(f"written {records:016x} {text:016x}")
+        print(f"written {digest_records([m.record() for m in made]):016x} {digest_texts([m.text for m in made]):016x}")
 
     def shows(self, calls):
         made = self.made(calls)

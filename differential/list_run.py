@@ -75,7 +75,7 @@ def run(start, dirty, calls):
             shown = shown._replace(words=without_keys(shown.words))
         record = record_of(a._replace(header=header._replace(dirty=dirty)), shown)
         text = shown.text + b"x" * (TEXT - len(shown.text))
-        lines.append(f"{numbers([call.kind])}:{numbers(record[:NUMBERS])}, record {digest(record)}, text {digest(text)}")
+        lines.append(f"{numbers([call.kind])}:{numbers(record[:NUMBERS])}, record {digest_record(record)}, text {digest(text)}")
     print(f"gives 0 {len(calls)}, count {header.count}, flag {int(dirty)}, digest {digest(without_keys(words))}")
     print(*lines, sep="\n")
     return last

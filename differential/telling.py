@@ -138,6 +138,19 @@ def digest(numbers):
     return d
 
 
+def digest_record(record):
+    """In words that were 7, without those that are 7 at its end: the same however much room it has."""
+    used = len(record)
+    while used and record[used - 1] == 7:
+        used -= 1
+    return digest(record[:used])
+
+
+def digest_log(log, length):
+    """By the digests of its records. What is behind the last whole one counts as one more."""
+    return digest(digest_record(log[i : i + length]) for i in range(0, len(log), length))
+
+
 def numbers(values):
     return "".join(f" {v}" for v in values)
 
@@ -234,7 +247,7 @@ class Sum:
         self.left(a)
         text.put_at(0, shown.text)
         line = f"{numbers([call.kind, call.p, call.q])} gives{numbers(record[:NUMBERS])}{self.told()}"
-        line += f", record {digest(record)}, text {text.digest}"
+        line += f", record {digest_record(record)}, text {text.digest}"
         if shown.words:
             line += f", shown{numbers(shown.words[:20])}"
         print(line)
@@ -250,7 +263,7 @@ class Sum:
         fits = sizes and all(call.kind <= PAGE and (shown == SHOWN or call.kind not in (TABLE, VIEW)) for call in calls)
         records = self.made(calls, stop, shown, room) if fits else []
         left = [w for record in records for w in record] + [7] * (log - len(records) * length)
-        print(f" {LIST} gives {0 if fits else DOES_NOT_FIT} {len(records)}{self.told()}, log {digest(left)}, text {text.digest}")
+        print(f" {LIST} gives {0 if fits else DOES_NOT_FIT} {len(records)}{self.told()}, log {digest_log(left, min(length, NUMBERS + SHOWN))}, text {text.digest}")
         for i in range(len(calls) if fits else 0):
             print(numbers(left[i * length : i * length + NUMBERS]))
 

@@ -217,16 +217,31 @@ static const tableau_sum_room room = {TABLEAU_SUM_SHOWN_WORDS, SHEET};
 static uint64_t all_records[MOST * ROOM];
 static uint8_t all_text[MOST * SHEET];
 
+#define PAINT 7
+
+/* By the digests of all records, each without the paint at its end: the same however much room a record has. */
+static uint64_t digest_of_records(void)
+{
+    uint64_t digest = 0;
+    for (size_t i = 0; i < MOST; i++) {
+        size_t used = ROOM;
+        while (used > 0 && all_records[i * ROOM + used - 1] == PAINT)
+            used--;
+        digest = mixed(digest, digest_of(all_records + i * ROOM, used));
+    }
+    return digest;
+}
+
 /* What is written stands in paint. */
 static tableau_sum_ran run(size_t calls_len, size_t log_len, size_t text_len, tableau_sum_room r)
 {
     for (size_t i = 0; i < MOST * ROOM; i++)
-        all_records[i] = i;
-    memset(all_text, 7, sizeof all_text);
+        all_records[i] = PAINT;
+    memset(all_text, PAINT, sizeof all_text);
     const tableau_sum_ran ran =
         tableau_sum_run(header, store, WORDS, calls->words, calls_len, all_records, log_len, all_text, text_len, r, false);
     tell_run("run", ran);
-    printf("written %016" PRIx64 " %016" PRIx64 "\n", digest_of(all_records, MOST * ROOM), digest_of_text(all_text, sizeof all_text));
+    printf("written %016" PRIx64 " %016" PRIx64 "\n", digest_of_records(), digest_of_text(all_text, sizeof all_text));
     return ran;
 }
 

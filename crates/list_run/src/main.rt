@@ -77,7 +77,7 @@ fn tell_record(kind: u64, record: &[u64], text: &[u8]) {
     test_support::text(b":");
     test_support::numbers(record, 0, NUMBER_WORDS);
     test_support::text(b", record");
-    test_support::number(test_support::digest(record));
+    test_support::number(test_support::digest_record(record));
     test_support::text(b", text");
     test_support::number(test_support::digest_bytes(text));
     test_support::text(b"\n");

@@ -72,27 +72,32 @@ fn tell_shown(kind: u64, record: &[u64]) {
     test_support::numbers(record, NUMBER_WORDS, NUMBER_WORDS + length as usize);
 }
 
-// The digests of a record or a log, and of the text.
-fn tell_written(name: &[u8], words: &[u64], text: &[u8]) {
+// The digests of a record or a log, which is given, and of the text.
+fn tell_written(name: &[u8], digest: u64, text: &[u8]) {
     test_support::text(name);
-    test_support::number(test_support::digest(words));
+    test_support::number(digest);
     test_support::text(b", text");
     test_support::number(test_support::digest_bytes(text));
 }
 
-// The numbers of each record of a log.
-fn tell_records(log: &[u64], shown: usize, count: usize) {
+// The words of a record that has room to show so many; more than there can be do not fit, and then no record is written.
+fn record_len(shown: usize) -> usize {
     if SHOWN_WORDS < shown {
-        return;
+        return RECORD_WORDS;
     }
-    let len = NUMBER_WORDS + shown;
+    NUMBER_WORDS + shown
+}
+
+// The numbers of each record of a log.
+fn tell_records(log: &[u64], len: usize, count: usize) {
     let mut at = 0;
     let mut i: usize = 0;
     while i < count {
         if log.len() - at < len {
             return;
         }
-        test_support::numbers(log, at, at + NUMBER_WORDS);
+        let record = &log[at..at + len];
+        test_support::numbers(record, 0, NUMBER_WORDS);
         test_support::text(b"\n");
         at += len;
         i += 1;
@@ -121,7 +126,7 @@ fn call(state: &mut [u64; 18], store: &mut [u64], text: &mut [u8], item: &[u64; 
     test_support::text(b" gives");
     test_support::numbers(&record, 0, NUMBER_WORDS);
     tell_sum(state, store);
-    tell_written(b", record", &record, text);
+    tell_written(b", record", test_support::digest_record(&record), text);
     tell_shown(item[0], &record);
     test_support::text(b"\n");
 }
@@ -154,10 +159,11 @@ fn run_list(
     test_support::number(ran.number);
     test_support::number(ran.made as u64);
     tell_sum(state, store);
-    tell_written(b", log", log, text);
+    let len = record_len(room.shown);
+    tell_written(b", log", test_support::digest_log(log, len), text);
     test_support::text(b"\n");
     if ran.number == 0 {
-        tell_records(log, room.shown, item[1] as usize);
+        tell_records(log, len, item[1] as usize);
     }
 }
 

@@ -147,3 +147,32 @@ pub fn digest(words: &[u64]) -> u64 {
     }
     h
 }
+
+// Of a record in words that were 7, without those that are 7 at its end: the same however much room it has.
+pub fn digest_record(record: &[u64]) -> u64 {
+    let mut end = record.len();
+    while 0 < end {
+        if record[end - 1] != 7 {
+            return digest(&record[0..end]);
+        }
+        end -= 1;
+    }
+    DIGEST_OF_NOTHING
+}
+
+// Of a log, by the digests of its records. What is behind the last whole one counts as one more.
+pub fn digest_log(log: &[u64], record_len: usize) -> u64 {
+    let mut h: u64 = DIGEST_OF_NOTHING;
+    let mut at = 0;
+    while at < log.len() {
+        if record_len == 0 {
+            return h;
+        }
+        if log.len() - at < record_len {
+            return absorb(h, digest_record(&log[at..]));
+        }
+        h = absorb(h, digest_record(&log[at..at + record_len]));
+        at += record_len;
+    }
+    h
+}

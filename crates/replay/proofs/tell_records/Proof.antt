@@ -1,33 +1,40 @@
 -- `replay::tell_records` is safe and ends. Assumes nothing.
 use Prim.Native.Nat.{_-_, _≤_}
+use native.Mathlib.Omega.{arith}
 use lib.ListN.{length}
 use borrow.Author.Needs.{needs}
 use Rattle.replay.proofs.tell_records.Statement.{statement}
 use Rattle.replay.proofs.tell_records.Tie as tie
 
 abbrev Inv-loop : tie.InvT-loop
-Inv-loop log shown count len at₀ i₀ t7 at i = (i ≤ count) × (at ≤ length log)
+Inv-loop log len count at₀ i₀ t7 at i = (i ≤ count) × (at ≤ length log)
 
 abbrev μ-loop : tie.MeasureT-loop
-μ-loop log shown count len at₀ i₀ t7 at i = count - i
-
-returns : tie.Need-returns Inv-loop μ-loop
-returns c = search needs
-
-add-len : tie.Need-add-len Inv-loop μ-loop
-add-len c = search needs
+μ-loop log len count at₀ i₀ t7 at i = count - i
 
 loop-holds : tie.Need-loop-holds Inv-loop μ-loop
 loop-holds c = search needs
 
-sub-if2 : tie.Need-sub-if2 Inv-loop μ-loop
-sub-if2 c = search needs
+sub-if1 : tie.Need-sub-if1 Inv-loop μ-loop
+sub-if1 c = search needs
 
-returns-2 : tie.Need-returns-2 Inv-loop μ-loop
-returns-2 c = search needs
+returns : tie.Need-returns Inv-loop μ-loop
+returns c = search needs
 
-add-numbers : tie.Need-add-numbers Inv-loop μ-loop
-add-numbers c = search needs
+add-record : tie.Need-add-record Inv-loop μ-loop
+add-record c = search needs
+
+mul-record : tie.Need-mul-record Inv-loop μ-loop
+mul-record c = search needs
+
+sub-record : tie.Need-sub-record Inv-loop μ-loop
+sub-record c = search needs
+
+part-record-start : tie.Need-part-record-start Inv-loop μ-loop
+part-record-start c = search needs
+
+part-record-end : tie.Need-part-record-end Inv-loop μ-loop
+part-record-end c = search needs
 
 numbers-requires : tie.Need-numbers-requires Inv-loop μ-loop
 numbers-requires c κs = search needs
@@ -50,8 +57,8 @@ loop-less c = search needs
 loop-again : tie.Need-loop-again Inv-loop μ-loop
 loop-again c = search needs
 
-returns-3 : tie.Need-returns-3 Inv-loop μ-loop
-returns-3 c = search needs
+returns-2 : tie.Need-returns-2 Inv-loop μ-loop
+returns-2 c = search needs
 
 pub tell-records-spec : {M : Type 1} → statement M
 tell-records-spec =
@@ -59,12 +66,14 @@ tell-records-spec =
     (tie.spec
     Inv-loop
     μ-loop
-    returns
-    add-len
     loop-holds
-    sub-if2
-    returns-2
-    add-numbers
+    sub-if1
+    returns
+    add-record
+    mul-record
+    sub-record
+    part-record-start
+    part-record-end
     numbers-requires
     slice-aggregate-text
     text-requires
@@ -72,4 +81,4 @@ tell-records-spec =
     add-i
     loop-less
     loop-again
-    returns-3)
+    returns-2)

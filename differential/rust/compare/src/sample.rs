@@ -8,8 +8,8 @@ use ours::list::parts;
 use ours::{Header, Ours};
 
 const CALLS: usize = 400;
-/// A record: eleven numbers, and room for 581 words that a table or a view shows, which were 7 before.
-const RECORD: usize = 592;
+/// The most words that a table or a view shows in a record, which were 7 before.
+const SHOWN_WORDS: u64 = 581;
 
 pub fn run(seed: u64) {
     println!(
@@ -72,7 +72,7 @@ fn step(pair: &mut Pair, call: Call, d: &mut Draw) -> bool {
         let mut sampled = pair.published.sampled();
         let table = sampled.table();
         match d.below(4) {
-            0 => tell(pair, [11, 581, 0], &[], [0, 0, 0, 0, 0, 0, table.len() as u64, 0, 0], &table),
+            0 => tell(pair, [11, SHOWN_WORDS, 0], &[], [0, 0, 0, 0, 0, 0, table.len() as u64, 0, 0], &table),
             1 => {
                 let draw = d.unit();
                 tell(pair, [12, 0, 0], &[draw], [0, 0, 0, 0, 0, sampled.pick(draw) as u64, 0, 0, 0], &[]);
@@ -99,9 +99,10 @@ fn tell(pair: &Pair, head: [u64; 3], rates: &[f64], answer: [u64; 9], shown: &[u
     item(head[0], &[&head[1..], &rates].concat());
     let header = published(pair).header.words();
     let record = [&answer[..], &[header[3], header[6]]].concat();
-    let mut whole = [&record[..], shown].concat();
-    whole.resize(RECORD, 7);
-    let mut line = format!("{} gives{}{}, record {}, text {}", numbers(&head), numbers(&record), left(pair), digest(&whole), digest(&[]));
+    let whole = [&record[..], shown].concat();
+    let used = whole.iter().rposition(|w| *w != 7).map_or(0, |last| last + 1);
+    let (whole, text) = (digest(&whole[..used]), digest(&[]));
+    let mut line = format!("{} gives{}{}, record {whole}, text {text}", numbers(&head), numbers(&record), left(pair));
     if !shown.is_empty() {
         line += &format!(", shown{}", numbers(&shown[..shown.len().min(20)]));
     }
