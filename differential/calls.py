@@ -1,6 +1,6 @@
 """Every number that each call on a sum can give, the limits and their neighbours, and the traps."""
 
-from second import WORD, float_of
+from second import MOST_COEFFICIENTS, WORD, float_of
 from telling import *
 
 NAN, INFINITE = float_of(0x7FF8000000000000), float_of(0x7FF0000000000000)
@@ -55,7 +55,7 @@ def with_length(call, length):
 
 
 def sums_judged(call):
-    for n, k, capacity in (0, 2, 4), (65, 2, 4), (2, 0, 4), (2, 65, 4), (2, 2, 0), (2, 2, 257), (WORD, 2, 4), (2, 2, 3):
+    for n, k, capacity in (0, 2, 4), (65, 2, 4), (2, 0, 4), (2, MOST_COEFFICIENTS + 1, 4), (2, 2, 0), (2, 2, 257), (WORD, 2, 4), (2, 2, 3):
         with_size(call, n, k, capacity)
     with_length(call, 91)
     with_length(call, 93)

@@ -116,6 +116,7 @@ class Sum:
     def refusals(self, text):
         header, words = self.header, self.words
         self.told("fresh", fresh(65, K, CAPACITY, 0.5, 0.0, words))
+        self.told("fresh", fresh(N, MOST_COEFFICIENTS + 1, 16, 0.5, 0.0, words))
         self.told("fresh", fresh(N, K, CAPACITY, 0.5, math.nan, words))
         self.told("h", gate(header, words, turned_h, N))
         self.told("cnot", gate(header, words, turned_cnot, 1, 1))

@@ -1,6 +1,6 @@
 """The limits of fresh and their neighbours, in a store of sevens."""
 
-from second import WORD, float_of
+from second import MOST_COEFFICIENTS, WORD, entry_length, float_of
 from telling import *
 
 
@@ -12,10 +12,10 @@ def main():
     for n, k, capacity, length in (
         # n, K, capacity
         *((0, 1, 1, 8), (1, 1, 1, 14), (64, 1, 1, 392), (65, 1, 1, 398)),
-        *((1, 0, 1, 11), (1, 64, 1, 203), (1, 65, 1, 206)),
+        *((1, k, 1, entry_length(1, k)) for k in (0, MOST_COEFFICIENTS, MOST_COEFFICIENTS + 1)),
         *((1, 1, 0, 0), (1, 1, 256, 3584), (1, 1, 257, 3598)),
         # the largest, and a store one word short and one word long
-        *((64, 64, 256, 148736), (3, 2, 4, 116), (3, 2, 4, 115), (3, 2, 4, 117)),
+        *((64, MOST_COEFFICIENTS, 256, 118016), (3, 2, 4, 116), (3, 2, 4, 115), (3, 2, 4, 117)),
         # sizes whose product would overflow
         *((WORD, 1, 1, 14), (1, WORD, 1, 14), (1, 1, WORD, 14)),
     ):

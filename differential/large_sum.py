@@ -1,7 +1,7 @@
-"""Calls of every kind on 256 entries with n 64, K 64, made from outputs of SplitMix64 as crates/test_support (large.rt) says."""
+"""Calls of every kind on 256 entries with n 64, K 24, made from outputs of SplitMix64 as crates/test_support (large.rt) says."""
 
 import second
-from second import WORD, row_mask
+from second import MOST_COEFFICIENTS, WORD, row_mask
 from telling import *
 
 
@@ -18,9 +18,9 @@ def large_entry(e):
     """16 groups of 16 variants: X at qubit 0, Z at qubit 0, lost at qubit 3, other indices."""
     group, variant = divmod(e, 16)
     x_applied, z_applied, lost, moved = (variant >> bit & 1 for bit in range(4))
-    count = group * 64 // 15
+    count = group * MOST_COEFFICIENTS // 15
     words = [0x3F50000000000000 + output(100, e) // 0x1000, lost << 3, 0, 0, count]
-    for c in range(64):
+    for c in range(MOST_COEFFICIENTS):
         re, im = output(group, 3 * c + 1), output(group, 3 * c + 2)
         words += [c + 1000 * moved, part_bits(re, variant), part_bits(im, variant)] if c < count else [0, 0, 0]
     for r in range(128):
@@ -35,7 +35,7 @@ def large_words():
 
 def large():
     """That sum, its keys not worked out."""
-    run = Sum(64, 64, 256, 0.5, 0.0)
+    run = Sum(64, MOST_COEFFICIENTS, 256, 0.5, 0.0)
     give(LARGE)
     run.words = large_words()
     run.with_header(count=256, dirty=True)
@@ -43,14 +43,13 @@ def large():
 
 
 def largest_sheet():
-    """Every entry with 64 coefficients, most of them 0: written, read into a store of sevens, and written back."""
+    """Every entry with 24 coefficients, most of them 0: written, read into a store of sevens, and written back."""
     run = large()
     for e in range(256):
-        run.put(e * 581 + 4, 64)
-    text.fill(3_200_000, 120)
+        run.put(e * second.entry_length(64, MOST_COEFFICIENTS) + 4, MOST_COEFFICIENTS)
+    text.fill(127 + 64 * 256 * (1 + MOST_COEFFICIENTS + 128), 120)
     run.call(sheet)
-    written = text.bytes.rstrip(b"x")
-    text.become(written)
+    written = text.bytes
     run.lend(len(run.words), 7)
     run.begin(second.read_sheet(written, run.words), READ)
     text.fill(len(written), 120)

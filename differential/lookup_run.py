@@ -3,12 +3,11 @@
 import itertools
 import random
 
-from second import WORD, bits_of, looked_up
+from second import MOST_COEFFICIENTS, WORD, bits_of, looked_up
 from telling import give, given, numbers
 
 # A case, as crates/lookup_run has it.
 CASE = 33
-MOST = 64  # of K
 
 places = itertools.count(1)
 
@@ -55,11 +54,12 @@ def repeated():
 
 def limits():
     """As many as can be: counts K - 1 and K; the same index K times; the hit at either end, beside it, and none."""
-    rising = values(range(MOST))
-    for counted in MOST - 1, MOST:
-        for index in 0, 1, 2, 31, MOST - 2, MOST - 1, MOST:
+    most = MOST_COEFFICIENTS
+    rising = values(range(most))
+    for counted in most - 1, most:
+        for index in 0, 1, 2, 11, most - 2, most - 1, most:
             look_up(index, rising[:counted], rising[counted:])
-    for k in 1, 2, 3, 24, MOST:
+    for k in 1, 2, 3, 16, most:
         same = values([9] * k)
         look_up(9, same)
         look_up(8, same)

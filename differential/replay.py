@@ -3,6 +3,7 @@
 import pathlib
 
 import calls
+import coefficients
 import fresh_sums
 import large_sum
 import lists
@@ -24,6 +25,6 @@ def sample():
 
 
 def main():
-    for cases in marked_runs, fresh_sums, calls, sampling, sheets_written, sheets_read, large_sum, pages, lists:
+    for cases in marked_runs, fresh_sums, calls, sampling, sheets_written, sheets_read, large_sum, pages, lists, coefficients:
         cases.main()
     sample()

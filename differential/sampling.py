@@ -1,6 +1,6 @@
 """Tables, picks and views: ties, limits, and sums that are refused."""
 
-from second import WORD, bits_of, entry_length, float_of
+from second import MOST_COEFFICIENTS, WORD, bits_of, entry_length, float_of
 from telling import *
 
 NAN = float_of(0x7FF8000000000000)
@@ -49,7 +49,7 @@ def tables():
     small([0, 0x7FF8000000000000]).call(table(4))
     small([(1 << 63) + 1]).call(table(2))
     many(1, 1).call(table(512), table(511), table(520))
-    many(64, 64).call(table(512))
+    many(64, MOST_COEFFICIENTS).call(table(512))
 
 
 def picks():
@@ -71,7 +71,7 @@ def views():
     small([]).call(view(0))
     run = Sum(3, 2, 4, 0.5, 0.0)
     run.call(pauli(0.25, 0.125, 0.125, 2), h(1), *map(view, range(5)))
-    many(64, 64).call(view(0), view(255), view(256))
+    many(64, MOST_COEFFICIENTS).call(view(0), view(255), view(256))
 
 
 def refused(change):

@@ -136,9 +136,12 @@ def done(header, words, entries, dirty, counts=NO_COUNTS, lost=NO_LOSS):
 
 # The numbers 1 to 5.
 
+# Document 02, request 4.
+MOST_COEFFICIENTS = 24
+
 
 def limits_hold(n, k, capacity, words):
-    if not (1 <= n <= 64 and 1 <= k <= 64 and 1 <= capacity <= 256):
+    if not (1 <= n <= 64 and 1 <= k <= MOST_COEFFICIENTS and 1 <= capacity <= 256):
         return False
     return len(words) == capacity * entry_length(n, k)
 

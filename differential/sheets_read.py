@@ -1,7 +1,7 @@
 """Sheets read into a store of sevens: damaged ones of each kind, and sizes past their limits."""
 
 import second
-from second import WORD
+from second import MOST_COEFFICIENTS, WORD
 from telling import *
 
 
@@ -93,7 +93,7 @@ def numbers_of_lines():
 
 def numbers():
     # K, capacity, store length
-    for k in 0, 2, 64, 65, WORD:
+    for k in 0, 2, MOST_COEFFICIENTS, MOST_COEFFICIENTS + 1, WORD:
         first().field(21, k).read()
         first().field(21, k).store(2 * (11 + 3 * (k % 100))).read()
     for capacity in 0, 1, 256, 257, WORD:
@@ -125,7 +125,7 @@ def entries():
     # no coefficient
     first().copy(255, 383, 191).cut(319).field(169, 0).read()
     # the lowest number: 7 before 1, 2 and 5; then 1, 2, 5
-    all_wrong = [(21, 65), (84, 0x7FF8000000000000), (127, 0x7FF8000000000000)]
+    all_wrong = [(21, MOST_COEFFICIENTS + 1), (84, 0x7FF8000000000000), (127, 0x7FF8000000000000)]
     for right in range(3):
         run = first()
         for at, v in all_wrong[right:]:

@@ -1,6 +1,6 @@
 """Sheets at the limits, and sums that are refused, written over a text of 'x'."""
 
-from second import WORD, float_of
+from second import MOST_COEFFICIENTS, WORD, float_of
 from telling import *
 
 
@@ -31,7 +31,7 @@ def main():
     write(Sum(1, 1, 1, 0.5, 0.0), 383, 382, 400, 0)
     # an empty sum is one line
     write(Sum(1, 1, 1, 0.5, 1.0), 127, 126)
-    write(Sum(64, 64, 256, 0.5, 0.0), 8447, 8446)
+    write(Sum(64, MOST_COEFFICIENTS, 256, 0.5, 0.0), 8447, 8446)
     # weight: 1024, the next above, the least, -0.0, below 0, NaN
     for weight in 0x4090000000000000, 0x4090000000000001, 1, 1 << 63, (1 << 63) + 1, 0x7FF8000000000000:
         with_word(0, weight)

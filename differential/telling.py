@@ -11,7 +11,7 @@ PAULI, LOSS, DEPOLARIZING, PAIRS, DEPOLARIZE2, RESET, H, S, CNOT, TRUNCATE, NORM
 FRESH, READ, WORD_AT, ALL_WORDS, LARGE, SHOW, BYTE_AT, ALL_BYTES, TITLE = range(20, 29)
 LENT, LIST = 30, 31
 # The words of a call; the numbers of a record, and behind them what a table or a view shows.
-CALL, NUMBERS, SHOWN = 18, 11, 581
+CALL, NUMBERS, SHOWN = 18, 11, 512
 # What a list gives that does not fit.
 DOES_NOT_FIT = 19
 

@@ -5,7 +5,7 @@ import math
 import random
 
 import second
-from second import WORD, entry_length, float_of
+from second import MOST_COEFFICIENTS, WORD, entry_length, float_of
 from telling import *
 
 # A case, as crates/trials_run has it: an item, and its steps behind it.
@@ -74,7 +74,7 @@ def faults():
     # 1 alone: a store one word short, one word long, none; each size past its limits
     for words in 39, 41, 0:
         try_cutoffs([0.1], FEW, capacity=2, words=words)
-    for n, k, capacity in (0, 1, 1), (65, 1, 1), (1, 0, 1), (1, 65, 1), (1, 1, 0), (1, 1, 257):
+    for n, k, capacity in (0, 1, 1), (65, 1, 1), (1, 0, 1), (1, MOST_COEFFICIENTS + 1, 1), (1, 1, 0), (1, 1, 257):
         try_cutoffs([0.1], FEW, n, k, capacity)
     for n, k, capacity in (WORD, 1, 1), (1, WORD, 1), (1, 1, WORD):
         try_cutoffs([0.1], FEW, n, k, capacity, words=14)
@@ -176,10 +176,10 @@ def sizes():
     far = [loss(0.1, 63), pauli(0.1, 0.05, 0.02, 0), depolarizing(0.3, 63), loss(0.1, 64), loss(0.1, 1)]
     for steps in far[:3], far:
         try_cutoffs([0.06, 0.02], steps, n=64, capacity=16)
-    # K 2, and 64
+    # K 2, and at its limit
     try_cutoffs([0.05, 0.0], FEW, k=2, capacity=30)
-    try_cutoffs([0.05, 0.0], FEW, n=1, k=64, capacity=8)
-    try_cutoffs([0.01], FEW[:1], n=64, k=64, capacity=2)
+    try_cutoffs([0.05, 0.0], FEW, n=1, k=MOST_COEFFICIENTS, capacity=8)
+    try_cutoffs([0.01], FEW[:1], n=64, k=MOST_COEFFICIENTS, capacity=2)
     # the largest capacity, and a sum that outgrows it at the smallest cutoff
     steps = [channel for q in range(3) for channel in (depolarizing(0.2 + q / 10, q), loss(0.3, q))]
     try_cutoffs([0.01, 0.0], [*steps, loss(0.1, 0)], n=3, capacity=256)
@@ -219,6 +219,12 @@ def at_random():
             cases += 1
 
 
+def coefficients():
+    """K at its limit (document 02, request 4), one above it, and 64, each with a store that fits."""
+    for k in MOST_COEFFICIENTS, MOST_COEFFICIENTS + 1, 64:
+        try_cutoffs([0.05, 0.0], FEW, k=k, capacity=30)
+
+
 def main():
-    for cases in counted, faults, bounds, outputs, refused_steps, full_and_empty, sizes, at_random:
+    for cases in counted, faults, bounds, outputs, refused_steps, full_and_empty, sizes, at_random, coefficients:
         cases()

@@ -56,7 +56,7 @@ extern "C" {
 /* ---- limits: each from 1 to this */
 
 #define TABLEAU_SUM_MAX_QUBITS 64
-#define TABLEAU_SUM_MAX_COEFFICIENTS 64
+#define TABLEAU_SUM_MAX_COEFFICIENTS 24
 #define TABLEAU_SUM_MAX_CAPACITY 256
 
 /* the rates of tableau_sum_two_qubit_pauli_error */
@@ -500,7 +500,7 @@ static inline size_t tableau_sum_page_bytes(tableau_sum_size size)
 /* Words of a call; of the numbers that a record begins with; the most that a table or a view shows behind them. */
 #define TABLEAU_SUM_CALL_WORDS 18
 #define TABLEAU_SUM_RECORD_WORDS 11
-#define TABLEAU_SUM_SHOWN_WORDS 581
+#define TABLEAU_SUM_SHOWN_WORDS 512
 
 /* A call as words. The functions below make it. */
 typedef struct tableau_sum_call {

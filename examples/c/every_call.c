@@ -127,7 +127,9 @@ static size_t sheet(void)
 static void refusals(size_t text_len)
 {
     const tableau_sum_size large = {TABLEAU_SUM_MAX_QUBITS + 1, K, CAPACITY};
+    const tableau_sum_size long_entries = {N, TABLEAU_SUM_MAX_COEFFICIENTS + 1, 16}; /* 92 words each, as many as the store has */
     refused("fresh", tableau_sum_fresh(large, 0.5, 0, store, WORDS));
+    refused("fresh", tableau_sum_fresh(long_entries, 0.5, 0, store, WORDS));
     refused("fresh", tableau_sum_fresh(size, 0.5, (double)NAN, store, WORDS));
     refused("h", tableau_sum_h(header, store, WORDS, N));
     refused("cnot", tableau_sum_cnot(header, store, WORDS, 1, 1));

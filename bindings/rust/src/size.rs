@@ -1,7 +1,7 @@
 /// The most qubits of a sum.
 pub const MAX_QUBITS: usize = 64;
 /// The most coefficients that an entry can have room for.
-pub const MAX_COEFFICIENTS: usize = 64;
+pub const MAX_COEFFICIENTS: usize = 24;
 /// The most entries that a sum can have room for.
 pub const MAX_CAPACITY: usize = 256;
 
@@ -58,8 +58,8 @@ mod tests {
     #[test]
     fn words_within_the_limits_and_beside_them() {
         assert_eq!(Size { n: 1, k: 1, capacity: 2 }.store_words(), Some(28));
-        assert_eq!(Size { n: 64, k: 64, capacity: 256 }.store_words(), Some(256 * 581));
-        let beside = [(0, 1, 1), (65, 1, 1), (1, 0, 1), (1, 65, 1), (1, 1, 0), (1, 1, 257), (usize::MAX, 1, 1), (1, 1, usize::MAX)];
+        assert_eq!(Size { n: 64, k: 24, capacity: 256 }.store_words(), Some(256 * 461));
+        let beside = [(0, 1, 1), (65, 1, 1), (1, 0, 1), (1, 25, 1), (1, 1, 0), (1, 1, 257), (usize::MAX, 1, 1), (1, 1, usize::MAX)];
         for (n, k, capacity) in beside {
             assert_eq!(Size { n, k, capacity }.store_words(), None);
         }

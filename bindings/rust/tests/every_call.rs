@@ -1,7 +1,7 @@
 //! The calls of examples/c/every_call.c, made from Rust, give its stored lines: every call, every number, and circuits.
 
 use std::fmt::Write;
-use tableau_sum::{Circuit, Counts, Error, Lost, Outcome, Size, Step, TableauSum, MAX_QUBITS};
+use tableau_sum::{Circuit, Counts, Error, Lost, Outcome, Size, Step, TableauSum, MAX_COEFFICIENTS, MAX_QUBITS};
 
 const SIZE: Size = Size { n: 2, k: 2, capacity: 64 };
 
@@ -129,6 +129,7 @@ fn sheet(report: &mut Report, sum: &TableauSum) -> Result<(TableauSum, Vec<u8>),
 
 fn refusals(report: &mut Report, sum: &mut TableauSum, mut text: Vec<u8>) {
     report.refused_to_begin("fresh", sum, TableauSum::fresh(Size { n: MAX_QUBITS + 1, ..SIZE }, 0.5, 0.0));
+    report.refused_to_begin("fresh", sum, TableauSum::fresh(Size { k: MAX_COEFFICIENTS + 1, capacity: 16, ..SIZE }, 0.5, 0.0));
     report.refused_to_begin("fresh", sum, TableauSum::fresh(SIZE, 0.5, f64::NAN));
     let outcome = sum.h(SIZE.n);
     report.refused("h", sum, outcome);

@@ -129,11 +129,13 @@ fn the_limits_are_the_same() {
         assert!(HEADER.contains(&format!("#define TABLEAU_SUM_MAX_{name} {limit}\n")));
     }
     assert!(HEADER.contains(&format!("#define TABLEAU_SUM_STACK_BYTES {STACK_BYTES}\n")));
-    for (name, own, words) in [("CALL", "CALL", 18), ("NUMBER", "RECORD", 11), ("SHOWN", "SHOWN", 581)] {
+    for (name, own, words) in [("CALL", "CALL", 18), ("NUMBER", "RECORD", 11)] {
         assert!(PERFORM.contains(&format!("pub const {name}_WORDS: usize = {words};")));
         assert!(HEADER.contains(&format!("#define TABLEAU_SUM_{own}_WORDS {words}\n")));
-        assert!(own == "SHOWN" || FFI.contains(&format!("pub const {own}_WORDS: usize = {words};")));
+        assert!(FFI.contains(&format!("pub const {own}_WORDS: usize = {words};")));
     }
+    assert!(PERFORM.contains("pub const SHOWN_WORDS: usize = 2 * model::MAX_CAPACITY;"));
+    assert!(HEADER.contains(&format!("#define TABLEAU_SUM_SHOWN_WORDS {}\n", 2 * MAX_CAPACITY)));
 }
 
 /// BadSize as C has it: BAD_SIZE.

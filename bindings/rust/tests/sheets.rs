@@ -67,11 +67,23 @@ fn sizes_at_the_limits_and_beside_them() {
     let text = sum.sheet().unwrap();
     assert_eq!(TableauSum::read_sheet(&text).unwrap().sheet().unwrap(), text);
     assert_eq!(sum.table().unwrap().last(), Some(&(255, 1.0)));
-    for beside in [Size { n: 65, ..largest }, Size { k: 65, ..largest }, Size { capacity: 257, ..largest }, Size { n: 0, ..largest }] {
+    let above = [Size { n: 65, ..largest }, Size { k: 25, ..largest }, Size { k: 64, ..largest }, Size { capacity: 257, ..largest }];
+    for beside in above.into_iter().chain([Size { n: 0, ..largest }]) {
         assert_eq!(TableauSum::fresh(beside, 0.5, 0.0), Err(Error::BadSize));
     }
     for huge in [Size { n: usize::MAX, ..largest }, Size { capacity: usize::MAX, ..largest }] {
         assert_eq!(TableauSum::fresh(huge, f64::NAN, -1.0), Err(Error::BadSize));
+    }
+}
+
+/// Request 4 of document 02: a larger K is refused on a whole sheet, and a damaged sheet is refused as one, whatever its K.
+#[test]
+fn k_on_a_sheet() {
+    for (k, read) in [(MAX_COEFFICIENTS, Ok(MAX_COEFFICIENTS)), (MAX_COEFFICIENTS + 1, Err(Error::BadSize)), (64, Err(Error::BadSize))] {
+        let text = format!("{}{k:>21}{}", &FIRST[..21], &FIRST[42..]);
+        assert_eq!(TableauSum::read_sheet(&text).map(|sum| sum.size().k), read);
+        assert_eq!(TableauSum::read_sheet(&text[1..]), Err(Error::BadSheet));
+        assert_eq!(TableauSum::read_sheet(&text[..text.len() - 64]), Err(Error::BadSheet));
     }
 }
 

@@ -9,6 +9,7 @@ ghost use lib.ListN.{length};
 ghost use Rattle.model.specs.Floats.{float, finite, finiteFromZero};
 ghost use Rattle.model.specs.Entries.{entryLen, entryOf, strip, listed};
 ghost use Rattle.model.specs.Numbers as Numbers;
+ghost use Rattle.model.specs.Numbers.{maxCoefficients};
 ghost use Rattle.model.specs.Lists.{allBelow};
 ghost use Rattle.model.specs.Calls as Calls;
 ghost use Rattle.model.specs.Calls.{held, shape, wordsSound};
@@ -128,7 +129,7 @@ pub fn exponent_next(w: u64) -> u64
 
 // The first `used` coefficients, all of them counted: neither part NaN nor infinite. In one OR, so with no way out on the way.
 pub fn counted_sound(coefs: &[u64], count: u64, used: usize) -> bool
-    requires { ⌜ (used ≤ 64) × (used ≤ count) × (3 * used ≤ length (now coefs)) ⌝ }
+    requires { ⌜ (used ≤ maxCoefficients) × (used ≤ count) × (3 * used ≤ length (now coefs)) ⌝ }
     ensures { λ r. ⌜ r ≡ allBelow (Numbers.coefSound count (now (coefs .entry))) used ⌝ }
 {
     let mut any: u64 = 0;
@@ -143,7 +144,7 @@ pub fn counted_sound(coefs: &[u64], count: u64, used: usize) -> bool
 
 // The places from `used` to k, none of them counted: 0.
 pub fn unused_sound(coefs: &[u64], count: u64, used: usize, k: usize) -> bool
-    requires { ⌜ (k ≤ 64) × (count ≤ used) × (used ≤ k) × (3 * k ≤ length (now coefs)) × (allBelow (Numbers.coefSound count (now coefs)) used ≡ true) ⌝ }
+    requires { ⌜ (k ≤ maxCoefficients) × (count ≤ used) × (used ≤ k) × (3 * k ≤ length (now coefs)) × (allBelow (Numbers.coefSound count (now coefs)) used ≡ true) ⌝ }
     ensures { λ r. ⌜ r ≡ Numbers.coefsSound k count (now (coefs .entry)) ⌝ }
 {
     let mut any: u64 = 0;
@@ -157,7 +158,7 @@ pub fn unused_sound(coefs: &[u64], count: u64, used: usize, k: usize) -> bool
 }
 
 pub fn coefs_sound(coefs: &[u64], k: usize, count: u64) -> bool
-    requires { ⌜ (k ≤ 64) × (3 * k ≤ length (now coefs)) ⌝ }
+    requires { ⌜ (k ≤ maxCoefficients) × (3 * k ≤ length (now coefs)) ⌝ }
     ensures { λ r. ⌜ r ≡ Numbers.coefsSound k count (now (coefs .entry)) ⌝ }
 {
     if (k as u64) <= count {

@@ -4,9 +4,7 @@
 use libc::STDIN_FILENO;
 
 // A case is given as an item: how many coefficients are counted, the index that is looked up, K, and K coefficients of three words.
-const MOST_COEFFICIENTS: usize = 64;
-
-const ITEM_WORDS: usize = 4 + 3 * MOST_COEFFICIENTS;
+const ITEM_WORDS: usize = 4 + 3 * model::MAX_COEFFICIENTS;
 
 fn look_up(place: u64, coefs: &[u64], count: usize, index: u64) {
     if coefs.len() / 3 < count {
@@ -27,7 +25,7 @@ fn run_case(place: u64, item: &[u64]) {
     let count = test_support::word_at(item, 1) as usize;
     let index = test_support::word_at(item, 2);
     let k = test_support::word_at(item, 3) as usize;
-    if k <= MOST_COEFFICIENTS {
+    if k <= model::MAX_COEFFICIENTS {
         let end = 4 + 3 * k;
         if end <= item.len() {
             look_up(place, &item[4..end], count, index);

@@ -1,5 +1,5 @@
 -- A call as words: its kind, two whole numbers, and the bits of up to 15 rates. Assumes nothing.
-use Prim.Native.Nat.{ℕ, _+_}
+use Prim.Native.Nat.{ℕ, _+_, _*_}
 use mathlib.Core.Bool.{Bool, cond, not, _&&_, _||_}
 use mathlib.Core.List.{List, map}
 use lib.Dec.{eqb, ltb, leb}
@@ -7,16 +7,18 @@ use lib.Ieee.{Float}
 use lib.ListN.{getD, drop}
 use Rattle.model.specs.Floats.{float}
 use Rattle.model.specs.Channels.{one, two, depolarize2}
+use Rattle.model.specs.Numbers.{maxCapacity}
 use Rattle.model.specs.Calls.{Call, noise, reset, gate, truncate, normalise, table, pick, sheet, view, page}
 use Rattle.model.specs.declared.Channel.the-variants.{Pauli, Loss, Depolarizing}
 use Rattle.model.specs.declared.Gate.the-variants.{H, S, Cnot}
 
--- words of a call; of what a table or a view can show in a record: the longest entry has 5 + 3·64 + 6·64, the longest table 512
+-- the words of a call
 abbrev pub callWords : ℕ
 callWords = 18
 
+-- the most that a table or a view shows in a record: the table of a full list. The longest entry, 5 + 3·24 + 6·64 words, is shorter
 abbrev pub shownWords : ℕ
-shownWords = 581
+shownWords = 2 * maxCapacity
 
 abbrev pub kindIn : List ℕ → ℕ
 kindIn w = getD w 0 0

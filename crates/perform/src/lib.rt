@@ -27,8 +27,8 @@ ghost use Rattle.perform.specs.Records.{numbers, recordWords, numberWord
 
 pub const CALL_WORDS: usize = 18;
 
-// What a table or a view can show: the longest entry has 5 + 3·64 + 6·64 words, the longest table 512.
-pub const SHOWN_WORDS: usize = 581;
+// The most that a table or a view shows: the table of a full list. The longest entry is shorter.
+pub const SHOWN_WORDS: usize = 2 * model::MAX_CAPACITY;
 
 // A record begins with the numbers of an answer; what is shown stands behind them.
 pub const NUMBER_WORDS: usize = 11;

@@ -118,7 +118,7 @@ pub fn entry_accepted(text: &[u8], size: Size) -> bool
         return false;
     }
     let len = entries::entry_len(size);
-    let mut scratch = [0u64; 581];
+    let mut scratch = [0u64; model::MAX_ENTRY_WORDS];
     read_entry(&mut scratch[0..len], text, size);
     checks::entry_sound(&scratch[0..len], size)
 }

@@ -311,14 +311,14 @@ fn replay(given: &[u8], store: &mut [u64], text: &mut [u8]) {
     }
 }
 
-// Room for the text of the largest sheet.
-fn text_room() -> [u8; 3_200_000] {
-    [0u8; 3_200_000]
+// Room for the largest sheet: a line of 127 bytes, and for each entry one of 64, one for each coefficient and one for each row.
+fn text_room() -> [u8; 2_506_879] {
+    [0u8; 2_506_879]
 }
 
 fn main() {
     let mut given = [0u8; 524_288];
-    let mut store = [0u64; 148_736];
+    let mut store = [0u64; 118_016];
     let mut text = text_room();
     let n = io::read_full(STDIN_FILENO, &mut given);
     replay(&given[0..n], &mut store, &mut text);

@@ -1,6 +1,12 @@
-// A sum of 256 entries for n 64, K 64, 581 words each, made from outputs of SplitMix64: 16 groups of 16 variants. The entries of a
+// A sum of 256 entries of the largest size, made from outputs of SplitMix64: 16 groups of 16 variants. The entries of a
 // group have equal x and z. Bit 0 of the variant: X applied at qubit 0; bit 1: Z applied there; bit 2: lost at qubit 3; bit 3:
 // other indices of the coefficients. So a Pauli at qubit 0, or a loss at 3, leads from an entry to one that is listed.
+
+use model::MAX_COEFFICIENTS;
+use model::MAX_ENTRY_WORDS;
+
+// Where the rows of an entry stand.
+const ROWS_AT: usize = 5 + 3 * MAX_COEFFICIENTS;
 
 // Output k of the generator with this seed.
 fn output(seed: usize, k: usize) -> u64 {
@@ -12,9 +18,9 @@ fn weight_word(e: usize) -> u64 {
     0x3f50_0000_0000_0000 + output(100, e) / 0x1000
 }
 
-// From 0, for the first group, to 64.
+// From 0, for the first group, to as many as there can be.
 fn coefficient_count(group: usize) -> usize {
-    group % 16 * 64 / 15
+    group % 16 * MAX_COEFFICIENTS / 15
 }
 
 // A float of size 0.5 to 1, of either sign; a little larger with the variant.
@@ -31,7 +37,7 @@ fn coefficient_word(group: usize, variant: usize, j: usize) -> u64 {
         return 0;
     }
     if j % 3 == 0 {
-        return c as u64 % 64 + variant as u64 / 8 % 2 * 1000;
+        return (c % MAX_COEFFICIENTS) as u64 + variant as u64 / 8 % 2 * 1000;
     }
     part_word(output(group, j), variant)
 }
@@ -82,17 +88,17 @@ fn large_word(e: usize, j: usize) -> u64 {
     if j == 4 {
         return coefficient_count(group) as u64;
     }
-    if j < 197 {
+    if j < ROWS_AT {
         return coefficient_word(group, variant, j - 5);
     }
-    row_word(group, variant, j - 197)
+    row_word(group, variant, j - ROWS_AT)
 }
 
 // The words of that sum.
 pub fn lay_large(words: &mut [u64]) {
     let mut i = 0;
     while i < words.len() {
-        words[i] = large_word(i / 581, i % 581);
+        words[i] = large_word(i / MAX_ENTRY_WORDS, i % MAX_ENTRY_WORDS);
         i += 1;
     }
 }

@@ -7,7 +7,7 @@ use Rattle.lookup_run.proofs.run_given.Statement.{statement}
 use Rattle.lookup_run.proofs.run_given.Tie as tie
 
 abbrev Inv-loop : tie.InvT-loop
-Inv-loop given item₀ at₀ i₀ item at i = (i ≤ 2000) × (length item ≡ 196)
+Inv-loop given item₀ at₀ i₀ item at i = (i ≤ 2000) × (length item ≡ 76)
 
 abbrev μ-loop : tie.MeasureT-loop
 μ-loop given item₀ at₀ i₀ item at i = 2000 - i

@@ -36,7 +36,7 @@ fits : (c : tie.Else1) → let s = from (c .before) in Fits (s .args .size) (zer
 fits c = let s = from (c .before) in entry-fits (now (s .args .text)) (s .pre .1) (s .args .size) (s .pre .2) (few c)
 
 -- the scratch words suffice
-room : (c : tie.After-entry-len) → c .entry-len .result ≤ 581
+room : (c : tie.After-entry-len) → c .entry-len .result ≤ 461
 room c = let s = from (c .before .before) in omega (arith, c .entry-len .ensures, s .pre .0 .qubits, s .pre .0 .coefficients)
 
 abbrev scratch-of : tie.After-read-entry → tie.After-entry-len

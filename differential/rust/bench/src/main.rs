@@ -279,10 +279,10 @@ fn calls(span: Duration, name: &str) {
     growth(&just, "by qubits, 64 entries, K 1", |m| (m.entries == 64).then_some(m.n));
 }
 
-/// n, K and entries.
+/// n, K and entries; at last the longest entries.
 fn sizes() -> impl Iterator<Item = (usize, usize, usize)> {
     let counts = |n, k| [16, 64, 200].map(|count| (n, k, count));
-    [4, 16, 64].into_iter().flat_map(move |n| [1, 16].into_iter().flat_map(move |k| counts(n, k)))
+    [4, 16, 64].into_iter().flat_map(move |n| [1, 16].into_iter().flat_map(move |k| counts(n, k))).chain([(64, 24, 200)])
 }
 
 fn main() {

@@ -1,6 +1,7 @@
 //! The inputs of docs/DIFFERENCES.md: the Rust does with each what is said there, and we refuse it with the number that is said. n 1, K 1,
 //! threshold 0.5, cutoff 0 and the fresh sum unless said.
 
+use crate::judge::MAX_COEFFICIENTS;
 use oracle::{Call, Published, Sum};
 use ours::{Ours, Size};
 use std::panic::{AssertUnwindSafe, catch_unwind};
@@ -73,7 +74,7 @@ fn cutoffs_and_limits() {
     assert_eq!(empty.weights(), []);
     assert_eq!(Ours::fresh(Size { n: 1, k: 1, capacity: 1 }, 0.5, f64::NAN).1.number, 2);
     assert_eq!(Published::fresh(65, 1, 0.5, 0.0).plain().weights().len(), 1);
-    for (n, k, capacity) in [(0, 1, 1), (65, 1, 1), (1, 65, 1), (1, 1, 0), (1, 1, 257)] {
+    for (n, k, capacity) in [(0, 1, 1), (65, 1, 1), (1, MAX_COEFFICIENTS + 1, 1), (1, 1, 0), (1, 1, 257)] {
         assert_eq!(Ours::fresh(Size { n, k, capacity }, 0.5, 0.0).1.number, 1);
     }
 }

@@ -1,6 +1,7 @@
 //! Random sums and calls, all from one seed.
 
 use crate::collision;
+use crate::judge::MAX_COEFFICIENTS;
 use oracle::{Call, Published, Sum, entry_len, rows_at};
 use ours::Ours;
 
@@ -42,7 +43,7 @@ pub struct Shape {
 /// Mostly small, so that many are tried; one in two hundred up to the limits.
 fn shape(d: &mut Draw) -> Shape {
     let (n, k, count) = match d.below(200) {
-        0 => (1 + d.below(64), 1 + d.below(64), d.below(257)),
+        0 => (1 + d.below(64), 1 + d.below(MAX_COEFFICIENTS), d.below(257)),
         1..=24 => (d.one_of(&[6, 12, 13, 14, 20, 31, 32, 33, 63, 64]), 1 + d.below(8), d.below(25)),
         _ => (1 + d.below(5), 1 + d.below(3), d.below(9)),
     };
@@ -208,7 +209,7 @@ pub fn call(d: &mut Draw, n: usize) -> Call {
 pub fn flawed(d: &mut Draw, sound: &Ours) -> Ours {
     let mut o = sound.clone();
     let size = &mut o.header.size;
-    let odd = d.one_of(&[0, 1, 64, 65, 256, 257, usize::MAX]);
+    let odd = d.one_of(&[0, 1, MAX_COEFFICIENTS, MAX_COEFFICIENTS + 1, 64, 65, 256, 257, usize::MAX]);
     match d.below(8) {
         0 => size.n = odd,
         1 => size.k = odd,

@@ -41,9 +41,13 @@ pub fn late_refusal(before: &Ours, call: Call, watch: &Watch) -> u64 {
     }
 }
 
+/// Of K: document 02, request 4. The Rust has no such limit.
+pub const MAX_COEFFICIENTS: usize = 24;
+
 fn size_sound(o: &Ours) -> bool {
     let s = o.header.size;
-    (1..=64).contains(&s.n) && (1..=64).contains(&s.k) && (1..=256).contains(&s.capacity) && o.store.len() == s.capacity * entry_len(s)
+    let within = (1..=64).contains(&s.n) && (1..=MAX_COEFFICIENTS).contains(&s.k) && (1..=256).contains(&s.capacity);
+    within && o.store.len() == s.capacity * entry_len(s)
 }
 
 fn header_sound(h: &Header) -> bool {

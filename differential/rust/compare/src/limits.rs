@@ -2,6 +2,7 @@
 
 use crate::collision;
 use crate::draw::{Draw, LEAST};
+use crate::judge::MAX_COEFFICIENTS;
 use crate::pair::Pair;
 use crate::tally::Tally;
 use oracle::{Call, rows_at};
@@ -10,7 +11,7 @@ use ours::{Ours, Size, entry_len};
 pub fn run() {
     let mut tally = Tally::default();
     for n in [1, 64] {
-        for k in [1, 64] {
+        for k in [1, MAX_COEFFICIENTS] {
             for capacity in [1, 2, 256] {
                 at(Size { n, k, capacity }, &mut tally);
             }
@@ -18,6 +19,9 @@ pub fn run() {
     }
     for n in [13, 32, 64] {
         equal_keys(n, &mut tally);
+    }
+    for k in [MAX_COEFFICIENTS, MAX_COEFFICIENTS + 1, 64] {
+        coefficients(k, &mut tally);
     }
     tally.print("limits");
     refused_fresh();
@@ -66,7 +70,7 @@ fn flaws(fresh: &Ours) -> Vec<Ours> {
         f(&mut o);
         all.push(o);
     };
-    for v in [0, 1, 64, 65, 256, 257, usize::MAX] {
+    for v in [0, 1, MAX_COEFFICIENTS, MAX_COEFFICIENTS + 1, 64, 65, 256, 257, usize::MAX] {
         put(&|o| o.header.size.n = v);
         put(&|o| o.header.size.k = v);
         put(&|o| o.header.size.capacity = v);
@@ -124,17 +128,33 @@ fn equal_keys(n: usize, tally: &mut Tally) {
     }
 }
 
-/// A refused fresh call gives a header of zeros and leaves the store.
+/// Every call on a sum of one entry that has so many coefficients, all counted, in a store that fits: past the limit of K it is refused.
+fn coefficients(k: usize, tally: &mut Tally) {
+    let (mut o, _) = Ours::fresh(Size { n: 2, k: 1, capacity: 1 }, 0.5, 0.0);
+    let (first, rows) = (o.store[5..8].to_vec(), o.store[8..].to_vec());
+    o.header.size = Size { k, capacity: 32, ..o.header.size };
+    o.store.truncate(5);
+    o.store[4] = k as u64;
+    o.store.extend((0..k as u64).flat_map(|index| [index, first[1], first[2]]).chain(rows));
+    o.store.resize(32 * entry_len(o.header.size), 0);
+    for call in calls(2) {
+        tally.call(&format!("limits of K: {k}"), &mut Pair::load(o.clone()), call, &mut Draw(0));
+    }
+}
+
+/// A refused fresh call gives a header of zeros and leaves the store, which fits where it can.
 fn refused_fresh() {
-    let bad_sizes = [0, 65, usize::MAX].map(|v| [(v, 1, 1), (1, v, 1)]).concat();
+    let bad_sizes = [0, 65, usize::MAX].map(|v| (v, 1, 1)).to_vec();
+    let bad_sizes = [bad_sizes, [0, MAX_COEFFICIENTS + 1, 64, usize::MAX].map(|v| (1, v, 1)).to_vec()].concat();
     let bad_sizes = [bad_sizes, [0, 257, usize::MAX].map(|v| (1, 1, v)).to_vec()].concat();
     let sizes = bad_sizes.into_iter().map(|(n, k, capacity)| (Size { n, k, capacity }, 0.5, 0.0, 1));
     let least = Size { n: 1, k: 1, capacity: 1 };
     let bounds = [-LEAST, f64::INFINITY, f64::NAN].map(|b| [(least, b, 0.0, 2), (least, 0.5, b, 2)]).concat();
     for (size, threshold, cutoff, number) in sizes.chain(bounds) {
-        let mut store = [7; 14];
+        let fits = [size.n, size.k, size.capacity].iter().all(|v| *v < 1000);
+        let mut store = vec![7; if fits { size.capacity * entry_len(size) } else { 14 }];
         let a = Ours::fresh_in(size, threshold, cutoff, &mut store);
-        let right = a.numbers() == [number, 0, 0, 0, 0, 0, 0, 0, 0] && a.header.words() == [0; 7] && store == [7; 14];
+        let right = a.numbers() == [number, 0, 0, 0, 0, 0, 0, 0, 0] && a.header.words() == [0; 7] && store.iter().all(|w| *w == 7);
         assert!(right, "THEY DIFFER: fresh {size:?} {threshold} {cutoff}: {a:?}");
     }
 }
