@@ -44,9 +44,9 @@ def listing(k, count):
 
 
 def on_sheets():
-    """One coefficient, K, K + 1: read; with a wrong line end; without the last line; and with a threshold below 0."""
+    """One coefficient, as many as the limit, one more: read; with a wrong line end; without the last line; and with a threshold below 0."""
     for k in SIZES:
-        for count in 1, k, k + 1:
+        for count in 1, MOST_COEFFICIENTS, MOST_COEFFICIENTS + 1:
             listing(k, count).read()
             listing(k, count).byte(126, 13).read()
             listing(k, count).cut(127 + 64 * (2 + count)).read()
