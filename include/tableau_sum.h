@@ -26,9 +26,9 @@
  *
  * WHAT IS PROMISED, by proof. Whatever the numbers, headers and words are, a call ends, touches the slices only inside their lengths,
  * and gives exactly what document 01 of the project says; tableau_sum_write_page and tableau_sum_try_cutoffs, what requests 1 and 2 of
- * document 02 say (request 3 changes no call; the others are not built); tableau_sum_run, what its calls give one after the other. For a
- * sum that was begun by tableau_sum_fresh, tableau_sum_read_sheet or tableau_sum_try_cutoffs, and whose header and store nothing but these
- * calls has written since, no branch misses an equal entry because of stale keys.
+ * document 02 say (request 3 changes no call, request 4 is a limit; the others are not built); tableau_sum_run, what its calls give one
+ * after the other. For a sum that was begun by tableau_sum_fresh, tableau_sum_read_sheet or tableau_sum_try_cutoffs, and whose header and
+ * store nothing but these calls has written since, no branch misses an equal entry because of stale keys.
  *
  * Calls on different stores may run at the same time in different threads.
  */
@@ -53,7 +53,8 @@ extern "C" {
 #define TABLEAU_SUM_CALL
 #endif
 
-/* ---- limits: each from 1 to this */
+/* ---- limits: each from 1 to this. Past them every call gives TABLEAU_SUM_BAD_SIZE, also where a sheet has them. (Up to request 4 of
+ * document 02 the limit of k was 64.) */
 
 #define TABLEAU_SUM_MAX_QUBITS 64
 #define TABLEAU_SUM_MAX_COEFFICIENTS 24
@@ -497,7 +498,7 @@ static inline size_t tableau_sum_page_bytes(tableau_sum_size size)
  *     tableau_sum_answer last = tableau_sum_record_answer(records[ran.made - 1], ran.header);
  */
 
-/* Words of a call; of the numbers that a record begins with; the most that a table or a view shows behind them. */
+/* Words of a call; of the numbers that a record begins with; the most that a table or a view shows behind them: the table of 256 entries. */
 #define TABLEAU_SUM_CALL_WORDS 18
 #define TABLEAU_SUM_RECORD_WORDS 11
 #define TABLEAU_SUM_SHOWN_WORDS 512

@@ -1,6 +1,7 @@
 /// The most qubits of a sum.
 pub const MAX_QUBITS: usize = 64;
-/// The most coefficients that an entry can have room for.
+/// The most coefficients that an entry can have room for. (Up to request 4 of document 02 it was 64; a sheet with more gives
+/// [`Error::BadSize`](crate::Error::BadSize).)
 pub const MAX_COEFFICIENTS: usize = 24;
 /// The most entries that a sum can have room for.
 pub const MAX_CAPACITY: usize = 256;

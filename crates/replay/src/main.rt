@@ -5,6 +5,10 @@
 // what is to come out.
 use libc::STDIN_FILENO;
 use model::Header;
+use model::MAX_CAPACITY;
+use model::MAX_COEFFICIENTS;
+use model::MAX_ENTRY_WORDS;
+use model::MAX_QUBITS;
 use model::Size;
 use runs::Room;
 use test_support::LIST_WORDS;
@@ -311,14 +315,19 @@ fn replay(given: &[u8], store: &mut [u64], text: &mut [u8]) {
     }
 }
 
-// Room for the largest sheet: a line of 127 bytes, and for each entry one of 64, one for each coefficient and one for each row.
-fn text_room() -> [u8; 2_506_879] {
-    [0u8; 2_506_879]
+// The words of the largest store.
+const STORE_WORDS: usize = MAX_CAPACITY * MAX_ENTRY_WORDS;
+
+// The bytes of the largest sheet: a line of 127, and lines of 64 for each entry, one and one for each coefficient and row.
+const TEXT_BYTES: usize = 127 + 64 * MAX_CAPACITY * (1 + MAX_COEFFICIENTS + 2 * MAX_QUBITS);
+
+fn text_room() -> [u8; TEXT_BYTES] {
+    [0u8; TEXT_BYTES]
 }
 
 fn main() {
     let mut given = [0u8; 524_288];
-    let mut store = [0u64; 118_016];
+    let mut store = [0u64; STORE_WORDS];
     let mut text = text_room();
     let n = io::read_full(STDIN_FILENO, &mut given);
     replay(&given[0..n], &mut store, &mut text);

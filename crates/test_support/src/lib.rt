@@ -15,7 +15,7 @@ pub const CALL_WORDS: usize = 18;
 
 pub const NUMBER_WORDS: usize = 11;
 
-pub const SHOWN_WORDS: usize = 512;
+pub const SHOWN_WORDS: usize = 2 * model::MAX_CAPACITY;
 
 pub const RECORD_WORDS: usize = NUMBER_WORDS + SHOWN_WORDS;
 
