@@ -68,13 +68,20 @@ def without_shown_words():
     small().run(plain, shown=5, room=ROOM)
 
 
+def more_room():
+    """Records that are longer than a table or a view asks for, up to what it asked for before request 4 of document 02."""
+    for shown in SHOWN + 1, MOST_SHOWN:
+        both_ways(small, EVERY_KIND, shown=shown, room=ROOM)
+        small().run(ACCEPTED, shown=shown)
+
+
 def lengths():
     count, length = len(ACCEPTED), NUMBERS + SHOWN
     small().run(ACCEPTED, log=count * length - 1)
     small().run(ACCEPTED, log=count * length + 3)
     small().run(ACCEPTED, shown=0, log=count * NUMBERS - 1)
-    small().run(ACCEPTED, shown=SHOWN + 1)
-    small().run(ACCEPTED, shown=WORD, log=count * length)
+    small().run(ACCEPTED, shown=MOST_SHOWN + 1)
+    small().run(ACCEPTED, shown=WORD, log=count * (NUMBERS + MOST_SHOWN))
     small().run(ACCEPTED, words=count * CALL - 1)
     # a stretch of text for each: as many bytes as there are, one more, far more
     each = len(text.bytes) // count
@@ -143,3 +150,4 @@ def main():
     unsound()
     weights()
     lifted()
+    more_room()

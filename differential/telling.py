@@ -10,8 +10,8 @@ PAULI, LOSS, DEPOLARIZING, PAIRS, DEPOLARIZE2, RESET, H, S, CNOT, TRUNCATE, NORM
 # Other items of crates/replay.
 FRESH, READ, WORD_AT, ALL_WORDS, LARGE, SHOW, BYTE_AT, ALL_BYTES, TITLE = range(20, 29)
 LENT, LIST = 30, 31
-# The words of a call; the numbers of a record, and behind them what a table or a view shows.
-CALL, NUMBERS, SHOWN = 18, 11, 512
+# The words of a call; the numbers of a record, and behind them what a table or a view shows; the most room that there may be for it.
+CALL, NUMBERS, SHOWN, MOST_SHOWN = 18, 11, 512, 581
 # What a list gives that does not fit.
 DOES_NOT_FIT = 19
 
@@ -259,11 +259,11 @@ class Sum:
         give(LIST, len(calls), stop, shown, room, log, words)
         for call in calls:
             give(call.kind, call.p, call.q, *call.rates)
-        sizes = words % CALL == 0 and shown <= SHOWN and len(calls) * length <= log and len(calls) * room <= len(text.bytes)
-        fits = sizes and all(call.kind <= PAGE and (shown == SHOWN or call.kind not in (TABLE, VIEW)) for call in calls)
+        sizes = words % CALL == 0 and shown <= MOST_SHOWN and len(calls) * length <= log and len(calls) * room <= len(text.bytes)
+        fits = sizes and all(call.kind <= PAGE and (shown >= SHOWN or call.kind not in (TABLE, VIEW)) for call in calls)
         records = self.made(calls, stop, shown, room) if fits else []
         left = [w for record in records for w in record] + [7] * (log - len(records) * length)
-        print(f" {LIST} gives {0 if fits else DOES_NOT_FIT} {len(records)}{self.told()}, log {digest_log(left, min(length, NUMBERS + SHOWN))}, text {text.digest}")
+        print(f" {LIST} gives {0 if fits else DOES_NOT_FIT} {len(records)}{self.told()}, log {digest_log(left, min(length, NUMBERS + MOST_SHOWN))}, text {text.digest}")
         for i in range(len(calls) if fits else 0):
             print(numbers(left[i * length : i * length + NUMBERS]))
 

@@ -498,10 +498,12 @@ static inline size_t tableau_sum_page_bytes(tableau_sum_size size)
  *     tableau_sum_answer last = tableau_sum_record_answer(records[ran.made - 1], ran.header);
  */
 
-/* Words of a call; of the numbers that a record begins with; the most that a table or a view shows behind them: the table of 256 entries. */
+/* Words of a call; of the numbers that a record begins with; the most that a table or a view shows behind them, the table of 256 entries;
+ * the most room that a record may have for that, as many as were asked for while k could be 64. */
 #define TABLEAU_SUM_CALL_WORDS 18
 #define TABLEAU_SUM_RECORD_WORDS 11
 #define TABLEAU_SUM_SHOWN_WORDS 512
+#define TABLEAU_SUM_MOST_SHOWN 581
 
 /* A call as words. The functions below make it. */
 typedef struct tableau_sum_call {
@@ -516,7 +518,8 @@ typedef struct tableau_sum_record {
 
 /* What each call of a list has room for. */
 typedef struct tableau_sum_room {
-    size_t shown; /* words behind the numbers of its record: TABLEAU_SUM_SHOWN_WORDS if the list has a table or a view, else 0 will do */
+    size_t shown; /* words behind the numbers of its record: TABLEAU_SUM_SHOWN_WORDS if the list has a table or a view, else 0 will do; at
+                   * most TABLEAU_SUM_MOST_SHOWN */
     size_t bytes; /* bytes of text, for a sheet or a page */
 } tableau_sum_room;
 
@@ -672,7 +675,7 @@ static inline tableau_sum_call tableau_sum_call_page(void)
  * calls: their words, one call behind the other. calls_len counts words, as the other lengths count elements.
  * log: call i has record i, of TABLEAU_SUM_RECORD_WORDS + room.shown words: its numbers, and then what a table or a view shows, as many
  * words as its length says. text: call i has stretch i, of room.bytes bytes, for a sheet or a page. What no call wrote stays as it is.
- * room: shown is TABLEAU_SUM_SHOWN_WORDS at most.
+ * room: shown is TABLEAU_SUM_MOST_SHOWN at most.
  * stop: the list ends with the first call that is refused. Without it refused calls change nothing but their record, and the rest goes on.
  * Numbers: 19, with the header as it was given and nothing changed. What each call gave is in its record.
  */

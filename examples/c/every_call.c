@@ -267,12 +267,12 @@ static void shows(void)
         tell(names[i], tableau_sum_record_answer(tableau_sum_record_at(all_records, room, i), ran.header), 0);
 }
 
-/* Lists that do not fit: no whole calls; a word of a record, a byte of text or room for a table is missing; more room than a table or a view
- * can fill; a kind that there is not. Lists without room: a view; more calls than memory holds; none at all, which fits. */
+/* Lists that do not fit: no whole calls; a word of a record, a byte of text or room for a table is missing; more room than a record
+ * may have; a kind that there is not. Lists without room: a view; more calls than memory holds; none at all, which fits. */
 static void unfit_lists(void)
 {
     const size_t call = TABLEAU_SUM_CALL_WORDS;
-    const tableau_sum_room little = {TABLEAU_SUM_SHOWN_WORDS - 1, SHEET}, much = {TABLEAU_SUM_SHOWN_WORDS + 1, SHEET};
+    const tableau_sum_room little = {TABLEAU_SUM_SHOWN_WORDS - 1, SHEET}, much = {TABLEAU_SUM_MOST_SHOWN + 1, SHEET};
     run(count * call - 1, count * ROOM, count * SHEET, room);
     run(count * call, count * ROOM - 1, count * SHEET, room);
     run(count * call, count * ROOM, count * SHEET - 1, room);

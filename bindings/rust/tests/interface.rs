@@ -136,6 +136,7 @@ fn the_limits_are_the_same() {
     }
     assert!(PERFORM.contains("pub const SHOWN_WORDS: usize = 2 * model::MAX_CAPACITY;"));
     assert!(HEADER.contains(&format!("#define TABLEAU_SUM_SHOWN_WORDS {}\n", 2 * MAX_CAPACITY)));
+    assert!(PERFORM.contains("pub const MOST_SHOWN: usize = 581;") && HEADER.contains("#define TABLEAU_SUM_MOST_SHOWN 581\n"));
 }
 
 /// BadSize as C has it: BAD_SIZE.

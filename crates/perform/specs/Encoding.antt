@@ -20,6 +20,10 @@ callWords = 18
 abbrev pub shownWords : ℕ
 shownWords = 2 * maxCapacity
 
+-- the most room that a record may have for it: what was asked for before request 4 of document 02, so that lists made for that run as before
+abbrev pub mostShown : ℕ
+mostShown = 581
+
 abbrev pub kindIn : List ℕ → ℕ
 kindIn w = getD w 0 0
 

@@ -30,6 +30,9 @@ pub const CALL_WORDS: usize = 18;
 // The most that a table or a view shows: the table of a full list. The longest entry is shorter.
 pub const SHOWN_WORDS: usize = 2 * model::MAX_CAPACITY;
 
+// The most room that a record may have for it: what was asked for before request 4 of document 02.
+pub const MOST_SHOWN: usize = 581;
+
 // A record begins with the numbers of an answer; what is shown stands behind them.
 pub const NUMBER_WORDS: usize = 11;
 

@@ -13,6 +13,7 @@ use model::Size;
 use runs::Room;
 use test_support::LIST_WORDS;
 use test_support::LOG_WORDS;
+use test_support::MOST_SHOWN;
 use test_support::NUMBER_WORDS;
 use test_support::RECORD_WORDS;
 use test_support::SHOWN_WORDS;
@@ -84,10 +85,10 @@ fn tell_written(name: &[u8], digest: u64, text: &[u8]) {
     test_support::number(test_support::digest_bytes(text));
 }
 
-// The words of a record that has room to show so many; more than there can be do not fit, and then no record is written.
+// The words of a record that has room to show so many. With more than there may be the list does not fit, and no record is written.
 fn record_len(shown: usize) -> usize {
-    if SHOWN_WORDS < shown {
-        return RECORD_WORDS;
+    if MOST_SHOWN < shown {
+        return NUMBER_WORDS + MOST_SHOWN;
     }
     NUMBER_WORDS + shown
 }

@@ -12,12 +12,12 @@ use borrow.Author.Tests.{leb-true}
 use Rattle.model.specs.Lists.{every}
 use Rattle.model.specs.Calls.{Call}
 use Rattle.model.proofs.Lists.{and-both, every-at, length-groups, group-at, getD-mapped}
-use Rattle.perform.specs.Encoding.{callWords, shownWords, known, showsWords, fitting, callOf}
+use Rattle.perform.specs.Encoding.{callWords, shownWords, mostShown, known, showsWords, fitting, callOf}
 use Rattle.runs.specs.Runs.{countIn, groupsIn, callsIn, recordLen, fits}
 use Rattle.runs.specs.declared.Room.{Room}
 
 pub record Fitting (room : Room) (calls : List ℕ) (log text : ℕ) : Type 0 where
-  pub shown : room .shown ≤ shownWords
+  pub shown : room .shown ≤ mostShown
   pub records : countIn calls * recordLen room ≤ log
   pub texts : countIn calls * room .bytes ≤ text
   pub kinds : every (fitting (room .shown)) (groupsIn calls) ≡ true
@@ -30,21 +30,21 @@ module _ (room : Room) (calls : List ℕ) (log text : ℕ) where
   unfolding fits
   all-fits e =
       let whole = eqb (length calls % callWords) 0 in
-      let small = leb (room .shown) shownWords in
+      let small = leb (room .shown) mostShown in
       let records = leb (n * recordLen room) log in
       let texts = leb (n * room .bytes) text in
       let b₁ = and-both (whole && small && records && texts) (every (fitting (room .shown)) (groupsIn calls)) e in
       let b₂ = and-both (whole && small && records) texts (b₁ .0) in
       let b₃ = and-both (whole && small) records (b₂ .0) in
       record {
-        shown = leb-true (room .shown) shownWords (and-both whole small (b₃ .0) .1);
+        shown = leb-true (room .shown) mostShown (and-both whole small (b₃ .0) .1);
         records = leb-true (n * recordLen room) log (b₃ .1);
         texts = leb-true (n * room .bytes) text (b₂ .1);
         kinds = b₁ .1;
       }
 
   -- the five tests
-  pub five : {a b d e f : Bool} → eqb (length calls % callWords) 0 ≡ a → leb (room .shown) shownWords ≡ b → leb (n * recordLen room) log ≡ d → leb (n * room .bytes) text ≡ e
+  pub five : {a b d e f : Bool} → eqb (length calls % callWords) 0 ≡ a → leb (room .shown) mostShown ≡ b → leb (n * recordLen room) log ≡ d → leb (n * room .bytes) text ≡ e
       → every (fitting (room .shown)) (groupsIn calls) ≡ f → (a && b && d && e && f) ≡ fits room calls log text
   unfolding fits
   five p q r s t = rw (← p, ← q, ← r, ← s, ← t)

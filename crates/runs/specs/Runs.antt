@@ -6,7 +6,7 @@ use lib.Dec.{eqb, leb}
 use lib.ListN.{length, take, drop}
 use Rattle.model.specs.Lists.{groups, every}
 use Rattle.model.specs.Calls.{Call, Lent, held, Left, step, overlaid, Start, start, zeroHeader}
-use Rattle.perform.specs.Encoding.{callWords, shownWords, fitting, callOf}
+use Rattle.perform.specs.Encoding.{callWords, mostShown, fitting, callOf}
 use Rattle.perform.specs.Records.{numberWords, recordOf, textOf}
 use Rattle.model.specs.Demand3.{next, afterCalls, madeOf}
 use Rattle.runs.specs.declared.Ran.{Ran}
@@ -32,7 +32,7 @@ recordLen room = numberWords + room .shown
 unfoldable pub fits : Room → List ℕ → ℕ → ℕ → Bool
 fits room calls logLen textLen =
     eqb (length calls % callWords) 0
-    && leb (room .shown) shownWords
+    && leb (room .shown) mostShown
     && leb (countIn calls * recordLen room) logLen
     && leb (countIn calls * room .bytes) textLen
     && every (fitting (room .shown)) (groupsIn calls)

@@ -12,13 +12,13 @@ ghost use Rattle.model.specs.Lists.{groups, every};
 ghost use Rattle.model.specs.Calls as Calls;
 ghost use Rattle.model.specs.Calls.{held, gave};
 ghost use Rattle.model.specs.Known.{Checked, Known};
-ghost use Rattle.perform.specs.Encoding.{callWords, shownWords, fitting};
+ghost use Rattle.perform.specs.Encoding.{callWords, mostShown, fitting};
 ghost use Rattle.runs.specs.Runs as Runs;
 ghost use Rattle.runs.specs.Runs.{recordLen, unfit, came, ranAll, ranOn, ranAfter, ranFrom, callsIn};
 ghost use Rattle.runs.specs.Promise.{Promise};
 
 // What each call has room for: so many words behind the numbers of its record, for a table or a view (perform::SHOWN_WORDS, or 0 in a list
-// that has neither), and so many bytes of text, for a sheet or a page.
+// that has neither; perform::MOST_SHOWN at most), and so many bytes of text, for a sheet or a page.
 #[repr(C)]
 pub struct Room {
     pub shown: usize,
@@ -67,7 +67,7 @@ fn all_fitting(calls: &[u64], count: usize, shown: usize) -> bool
 
 // The words of a record.
 fn record_len(room: Room) -> usize
-    requires { ⌜ room .shown ≤ shownWords ⌝ }
+    requires { ⌜ room .shown ≤ mostShown ⌝ }
     ensures { λ r. ⌜ r ≡ recordLen room ⌝ }
 {
     perform::NUMBER_WORDS + room.shown
@@ -82,7 +82,7 @@ fn fits(calls: &[u64], log: usize, text: usize, room: Room) -> bool
     if words % perform::CALL_WORDS != 0 {
         return false;
     }
-    if perform::SHOWN_WORDS < room.shown {
+    if perform::MOST_SHOWN < room.shown {
         return false;
     }
     if !enough(log, record_len(room), count) {

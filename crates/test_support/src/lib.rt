@@ -10,12 +10,15 @@ pub use given::read_item;
 pub use given::skip;
 pub use large::lay_large;
 
-// As crates/perform has them: the words of a call, the numbers of its record, and what a table or a view shows behind these.
+// As crates/perform has them: the words of a call, the numbers of its record, what a table or a view shows behind these, and the most
+// room that there may be for it.
 pub const CALL_WORDS: usize = 18;
 
 pub const NUMBER_WORDS: usize = 11;
 
 pub const SHOWN_WORDS: usize = 2 * model::MAX_CAPACITY;
+
+pub const MOST_SHOWN: usize = 581;
 
 pub const RECORD_WORDS: usize = NUMBER_WORDS + SHOWN_WORDS;
 

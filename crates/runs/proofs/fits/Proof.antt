@@ -6,7 +6,7 @@ use denote.Ref.{now}
 use lib.Dec.{eqb, leb}
 use lib.ListN.{length}
 use borrow.Author.Tests.{eq-eqb, ne-eqb, le-leb, lt-leb, not-true, not-false}
-use Rattle.perform.specs.Encoding.{callWords, shownWords}
+use Rattle.perform.specs.Encoding.{callWords, mostShown}
 use Rattle.runs.specs.Runs.{countIn, recordLen}
 use Rattle.runs.proofs.Fitting.{five, words-within}
 use borrow.Author.Needs.{needs}
@@ -16,8 +16,8 @@ use Rattle.runs.proofs.fits.Tie as tie
 whole : (c : tie.Else1) → eqb (length (now (c .before .before .args .calls)) % callWords) 0 ≡ true
 whole c = eq-eqb (length (now (c .before .before .args .calls)) % callWords) 0 (c .if1 .left)
 
-small : (c : tie.Else2) → leb (c .before .before .before .before .args .room .shown) shownWords ≡ true
-small c = le-leb (c .before .before .before .before .args .room .shown) shownWords (c .if2 .left)
+small : (c : tie.Else2) → leb (c .before .before .before .before .args .room .shown) mostShown ≡ true
+small c = le-leb (c .before .before .before .before .args .room .shown) mostShown (c .if2 .left)
 
 -- the records have room, or not
 records : (c : tie.After-enough) → let a = c .before .before .before .before .before .before .args in leb (countIn (now (a .calls)) * recordLen (a .room)) (a .log) ≡ c .enough .result
@@ -32,7 +32,7 @@ returns-2 : tie.Need-returns-2
 returns-2 c =
     let w = c .before .before in
     let a = w .before .before .args in
-    five (a .room) (now (a .calls)) (a .log) (a .text) (whole w) (lt-leb (a .room .shown) shownWords (c .if2 .taken)) refl refl refl
+    five (a .room) (now (a .calls)) (a .log) (a .text) (whole w) (lt-leb (a .room .shown) mostShown (c .if2 .taken)) refl refl refl
 
 record-len-requires : tie.Need-record-len-requires
 record-len-requires c κs = search needs
