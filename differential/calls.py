@@ -415,7 +415,7 @@ def gates():
     every_row(run)
     run.call(h(0), s(0), h(1), s(1), cnot(0, 1), h(0), cnot(1, 0), s(1), cnot(0, 1), h(1), cnot(1, 0))
     run.call(normalise, reset(0), cnot(0, 1))
-    # a lost qubit is turned like any other
+    # an entry that has lost both is passed over
     run.put(1, 3)
     run.call(h(0), s(1), cnot(0, 1))
 

@@ -84,7 +84,7 @@ def run(start, dirty, calls):
 def main():
     second.find = find
     # of the first forty seeds the one with most pages whose last sheet has room
-    calls = some_calls(random.Random(36))
+    calls = some_calls(random.Random(24))
     give(FRESH, N, K, CAPACITY, THRESHOLD, CUTOFF, LENGTH, len(calls))
     for call in calls:
         give(call.kind, call.p, call.q, *call.rates)

@@ -7,6 +7,7 @@ import coefficients
 import fresh_sums
 import large_sum
 import lists
+import lost_atoms
 import marked_runs
 import pages
 import sampling
@@ -25,6 +26,6 @@ def sample():
 
 
 def main():
-    for cases in marked_runs, fresh_sums, calls, sampling, sheets_written, sheets_read, large_sum, pages, lists, coefficients:
+    for cases in marked_runs, fresh_sums, calls, sampling, sheets_written, sheets_read, large_sum, pages, lists, coefficients, lost_atoms:
         cases.main()
     sample()

@@ -410,7 +410,7 @@ def reset_loss_channel(header, words, q):
     return done(header, words, entries, False, counts, Lost(lost, 0.0))
 
 
-# Point 8: gates. A gate turns one row; r is phase bit 1.
+# Point 8: gates. A gate turns one row; r is phase bit 1. Document 02, request 5: the rows of an entry stay where one of its qubits is lost.
 
 
 def turned_h(row, q):
@@ -439,7 +439,8 @@ def gate(header, words, turned, *qubits):
         return refused(number, header, words)
     entries = entries_of(header, words)
     for e in entries:
-        e.rows = [turned(row, *qubits) for row in e.rows]
+        if not any(e.lost_at(q) for q in qubits):
+            e.rows = [turned(row, *qubits) for row in e.rows]
     return done(header, words, entries, True)
 
 

@@ -26,9 +26,10 @@
  *
  * WHAT IS PROMISED, by proof. Whatever the numbers, headers and words are, a call ends, touches the slices only inside their lengths,
  * and gives exactly what document 01 of the project says; tableau_sum_write_page and tableau_sum_try_cutoffs, what requests 1 and 2 of
- * document 02 say (request 3 changes no call, request 4 is a limit; the others are not built); tableau_sum_run, what its calls give one
- * after the other. For a sum that was begun by tableau_sum_fresh, tableau_sum_read_sheet or tableau_sum_try_cutoffs, and whose header and
- * store nothing but these calls has written since, no branch misses an equal entry because of stale keys.
+ * document 02 say, and the gates, on lost atoms, what request 5 says (request 3 changes no call, request 4 is a limit; the others are not
+ * built); tableau_sum_run, what its calls give one after the other. For a sum that was begun by tableau_sum_fresh, tableau_sum_read_sheet
+ * or tableau_sum_try_cutoffs, and whose header and store nothing but these calls has written since, no branch misses an equal entry
+ * because of stale keys.
  *
  * Calls on different stores may run at the same time in different threads.
  */
@@ -282,7 +283,8 @@ TABLEAU_SUM_CALL tableau_sum_answer tableau_sum_depolarize2(tableau_sum_header h
  */
 TABLEAU_SUM_CALL tableau_sum_answer tableau_sum_reset_loss_channel(tableau_sum_header h, uint64_t *store, size_t store_len, size_t q);
 
-/* ---- gates: on the rows of every entry. The sum is dirty afterwards */
+/* ---- gates: on the rows of every entry that has not lost a qubit of the gate; the others stay as they are, whichever of CNOT's two is lost.
+ * The sum is dirty afterwards, also if no entry was turned. (Up to request 5 of document 02 gates turned lost atoms too) */
 
 /*
  * H at qubit q.

@@ -82,6 +82,8 @@ impl Circuit {
 }
 
 /// # Gates and weights
+///
+/// Gates pass over the entries that have lost one of their qubits.
 impl Circuit {
     /// H at qubit q.
     pub fn h(&mut self, q: usize) -> &mut Self {

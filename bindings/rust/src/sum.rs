@@ -149,7 +149,8 @@ impl TableauSum {
 
 /// # Gates
 ///
-/// They act on the rows of every entry, and the sum is dirty afterwards.
+/// They act on the rows of every entry that has not lost a qubit of the gate; the others stay as they are, whichever of CNOT's two is lost.
+/// The sum is dirty afterwards, also if no entry was turned.
 ///
 /// # Errors
 /// [`Error::BadPlace`], [`Error::BadEntry`].

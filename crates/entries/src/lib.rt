@@ -1,10 +1,11 @@
-// The entries in a store: where they stand; one moved, two exchanged, slots emptied.
+// The entries in a store: where they stand; which of their qubits are live; one moved, two exchanged, slots emptied.
 use model::Size;
 ghost use mathlib.Core.Path.{_≡_};
-ghost use mathlib.Core.List.{[]};
+ghost use mathlib.Core.List.{[], _∷_};
 ghost use Prim.Native.Nat.{_+_, _*_, _<_, _≤_};
 ghost use lib.ListN.{length, take, getD, set};
 ghost use Rattle.model.specs.Entries.{rowsLen, entryLen, entryOf, stretch, listed, bodyIn};
+ghost use Rattle.model.specs.Keys.{allLive};
 ghost use Rattle.model.specs.Sound.{Packed};
 ghost use Rattle.entries.specs.Exchanged.{exchanged};
 ghost use Rattle.entries.specs.Holds.{Holds};
@@ -37,6 +38,27 @@ pub fn rows_of(store: &[u64], size: Size, i: usize) -> &[u64]
     let rows = 5 + 3 * size.k;
     let e = entry(store, size, i);
     &e[rows..]
+}
+
+// ---- lost and live
+
+// Qubit q is live, by an entry's loss word.
+pub fn is_live(loss: u64, q: usize) -> bool
+    requires { ⌜ q < 64 ⌝ }
+    ensures { λ r. ⌜ r ≡ allLive loss (q ∷ []) ⌝ }
+{
+    (loss >> q) % 2 == 0
+}
+
+// Both qubits are.
+pub fn both_live(loss: u64, a: usize, b: usize) -> bool
+    requires { ⌜ (a < 64) × (b < 64) ⌝ }
+    ensures { λ r. ⌜ r ≡ allLive loss (a ∷ b ∷ []) ⌝ }
+{
+    if is_live(loss, a) {
+        return is_live(loss, b);
+    }
+    false
 }
 
 // ---- moved and exchanged

@@ -1,6 +1,7 @@
 -- H twice, S four times and CNOT of two qubits twice give each row back, so all rows: the bits that a gate flips are flipped twice, and the
--- sign an even number of times. Assumes nothing.
+-- sign an even number of times. So they give each entry's body back, whichever of its qubits are lost. Assumes nothing.
 use mathlib.Core.Path.{_≡_, refl, sym, ap, ap₂, _∙_}
+use mathlib.Core.Bool.{Bool, true, false, cond}
 use mathlib.Core.List.{List}
 use Prim.Native.Nat.{ℕ, zero, suc, _*_, _^_, _<_}
 use native.Mathlib.Nat.{zero-mul}
@@ -9,11 +10,12 @@ use lib.Bits.{bitXor, xor-zero-r}
 use lib.ListN.{length}
 use lib.Seq.{take-all}
 use Rattle.model.proofs.Xor.{xor-cancel, xor-swap}
-use Rattle.model.specs.Entries.{Row, rowAt, rowsBelow, mapRows}
-use Rattle.model.specs.Keys.{bit, ifSet}
-use Rattle.model.specs.Changes.{flips, flipsBy, flippedRow}
-use Rattle.model.specs.Gates.{xorBit, turnedRow}
+use Rattle.model.specs.Entries.{Body, Row, rowAt, rowsBelow, mapRows}
+use Rattle.model.specs.Keys.{bit, ifSet, allLive}
+use Rattle.model.specs.Changes.{flips, flipsBy, flippedRow, withRows}
+use Rattle.model.specs.Gates.{xorBit, turnedRow, turnedBody, gateQubits}
 use Rattle.model.specs.declared.BranchMutation.the-variants.{Pauli as pauli}
+use Rattle.model.specs.declared.Gate.{Gate}
 use Rattle.model.specs.declared.Gate.the-variants.{H, S, Cnot}
 use Rattle.model.specs.declared.Pauli.the-variants.{Z}
 use Rattle.model.proofs.IfSet.{bit-lt, bit-xor, bit-none, bit-pow-other}
@@ -102,12 +104,44 @@ module _ (n : ℕ) (f : Row → Row) (rows : List ℕ) (l : length rows ≡ 3 * 
   unfolding mapRows
   rows-back k h = repeated-rows k ∙ rows-ext (λ r. repeated k f (rowAt rows r)) (rowAt rows) (2 * n) (λ r b. h (rowAt rows r)) ∙ own
 
-module _ (n : ℕ) (rows : List ℕ) (l : length rows ≡ 3 * (2 * n)) where
-  pub h-rows : (q : ℕ) → repeated 2 (mapRows n (turnedRow (H q))) rows ≡ rows
-  h-rows q = rows-back n (turnedRow (H q)) rows l 2 (h-twice q)
+-- ---- a body: its rows, or nothing, since its losses stay as they are
 
-  pub s-rows : (q : ℕ) → repeated 4 (mapRows n (turnedRow (S q))) rows ≡ rows
-  s-rows q = rows-back n (turnedRow (S q)) rows l 4 (s-four q)
+module _ (n : ℕ) (g : Gate) (b : Body) where
+  -- its rows turned k times, where none of the qubits is lost
+  abbrev made : ℕ → Bool → Body
+  made k live = cond live (withRows b (repeated k (mapRows n (turnedRow g)) (b .rows))) b
 
-  pub cnot-rows : (a b : ℕ) → (a ≡ b → ⊥) → repeated 2 (mapRows n (turnedRow (Cnot a b))) rows ≡ rows
-  cnot-rows a b ne = rows-back n (turnedRow (Cnot a b)) rows l 2 (cnot-twice a b ne)
+  abbrev live-here : Bool
+  live-here = allLive (b .loss) (gateQubits g)
+
+  not-yet : (live : Bool) → b ≡ made 0 live
+  unfolding repeated
+  not-yet true = refl
+  not-yet false = refl
+
+  once-more : (k : ℕ) (live : Bool) → live-here ≡ live → turnedBody n g (made k live) ≡ made (suc k) live
+  unfolding repeated turnedBody
+  once-more k true h = ap (λ (t : Bool). cond t (made (suc k) true) (made k true)) h
+  once-more k false h = ap (λ (t : Bool). cond t (made 1 true) b) h
+
+  repeated-body : (k : ℕ) → repeated k (turnedBody n g) b ≡ made k live-here
+  unfolding repeated
+  repeated-body zero = not-yet live-here
+  repeated-body (suc k) = ap (turnedBody n g) (repeated-body k) ∙ once-more k live-here refl
+
+  body-back : (k : ℕ) → length (b .rows) ≡ 3 * (2 * n) → ((r : Row) → repeated k (turnedRow g) r ≡ r) → repeated k (turnedBody n g) b ≡ b
+  body-back k l h = repeated-body k ∙ go live-here
+    where
+      go : (live : Bool) → made k live ≡ b
+      go true = ap (withRows b) (rows-back n (turnedRow g) (b .rows) l k h)
+      go false = refl
+
+module _ (n : ℕ) (b : Body) (l : length (b .rows) ≡ 3 * (2 * n)) where
+  pub h-body : (q : ℕ) → repeated 2 (turnedBody n (H q)) b ≡ b
+  h-body q = body-back n (H q) b 2 l (h-twice q)
+
+  pub s-body : (q : ℕ) → repeated 4 (turnedBody n (S q)) b ≡ b
+  s-body q = body-back n (S q) b 4 l (s-four q)
+
+  pub cnot-body : (c t : ℕ) → (c ≡ t → ⊥) → repeated 2 (turnedBody n (Cnot c t)) b ≡ b
+  cnot-body c t ne = body-back n (Cnot c t) b 2 l (cnot-twice c t ne)

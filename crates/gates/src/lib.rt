@@ -1,4 +1,5 @@
-// Gates, after Aaronson and Gottesman: document 01, point 8. A gate turns every row of every entry; keys stay as they are, and are stale.
+// Gates, after Aaronson and Gottesman: document 01, point 8, and document 02, request 5. A gate turns every row of every entry that has not
+// lost one of its qubits; keys stay as they are, and are stale.
 mod call;
 
 pub use call::gate;
@@ -11,7 +12,7 @@ ghost use mathlib.Core.List.{map};
 ghost use Prim.Native.Nat.{_*_, _^_, _<_, _≤_};
 ghost use lib.ListN.{length};
 ghost use Rattle.model.specs.Entries.{entryLen, rowAt, rowWords, rowsBelow, mapRows, entryOf, wordsOf, listed};
-ghost use Rattle.model.specs.Keys.{ifSet};
+ghost use Rattle.model.specs.Keys.{ifSet, allLive};
 ghost use Rattle.model.specs.Store.{keyedWeighed};
 ghost use Rattle.model.specs.Gates.{turnedRow, turned, gateQubits};
 ghost use Rattle.model.specs.Numbers.{someNotBelow, bothTheSame};
@@ -114,14 +115,28 @@ pub fn turn_rows(rows: &mut [u64], n: usize, gate: Gate)
     }
 }
 
-// An entry: its rows.
+// None of the gate's qubits is lost.
+pub fn is_live(gate: Gate, loss: u64) -> bool
+    requires { ⌜ GateBelow 64 gate ⌝ }
+    ensures { λ r. ⌜ r ≡ allLive loss (gateQubits gate) ⌝ }
+{
+    match gate {
+        Gate::H(q) => entries::is_live(loss, q),
+        Gate::S(q) => entries::is_live(loss, q),
+        Gate::Cnot(a, b) => entries::both_live(loss, a, b),
+    }
+}
+
+// An entry: its rows, if none of the gate's qubits is lost.
 pub fn turn_entry(e: &mut [u64], size: Size, gate: Gate)
     requires { ⌜ Within size × (length (now e) ≡ entryLen size) × GateBelow 64 gate ⌝ }
     ensures { λ _. ⌜ now (e .exit) ≡ wordsOf (turned keyedWeighed (size .n) gate (entryOf size (now (e .entry)))) ⌝ }
 {
     let n = size.n;
     let rows = 5 + 3 * size.k;
-    turn_rows(&mut e[rows..], n, gate);
+    if is_live(gate, e[1]) {
+        turn_rows(&mut e[rows..], n, gate);
+    }
 }
 
 // Each listed entry, by rising place.

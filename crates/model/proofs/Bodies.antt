@@ -17,7 +17,7 @@ use Rattle.model.specs.Floats.{zeroBits, oneBits, finite}
 use Rattle.model.specs.Entries.{Body, Row, rowAt, mapRows, rowsBelow, coefsLen}
 use Rattle.model.specs.Keys.{ifSet}
 use Rattle.model.specs.Changes.{flippedRow, changedBody}
-use Rattle.model.specs.Gates.{turnedRow, turnedBody, gateQubits}
+use Rattle.model.specs.Gates.{turnedRow, gateQubits}
 use Rattle.model.specs.Numbers.{someNotBelow, bothTheSame, fitsIn, coefSound, rowSound, coefsSound, rowsSound, bodySound}
 use Rattle.model.specs.Calls.{freshRow, freshEntry}
 use Rattle.model.specs.Qubits.{QubitsBelow}
@@ -139,7 +139,6 @@ changed-sound s (loss q) b h e =
 
 -- every call keeps sound bodies
 pub sound-kept : (s : Size) → KeptBody (s .n) (λ b. bodySound s b ≡ true)
-unfolding turnedBody
 sound-kept s =
     record {
       changes = changed-sound s;

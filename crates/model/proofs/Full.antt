@@ -1,7 +1,6 @@
 -- Bodies with as many words as the size says, and that every call keeps them so. Assumes nothing.
 use Rattle.model.specs.Entries.{Body, Entry}
 use Rattle.model.specs.Changes.{changedBody}
-use Rattle.model.specs.Gates.{turnedBody}
 use Rattle.model.specs.declared.BranchMutation.{BranchMutation}
 use Rattle.model.specs.declared.BranchMutation.the-variants.{Pauli as pauli, Pair as pair, Loss as loss}
 use Rattle.model.specs.declared.Size.{Size}
@@ -19,7 +18,6 @@ changed-full s (pair p a o q) b h = record { coefs = h .coefs; rows = mapRows-le
 changed-full s (loss q) b h = record { coefs = h .coefs; rows = h .rows }
 
 pub full-kept : (s : Size) → KeptBody (s .n) (FullBody s)
-unfolding turnedBody
 full-kept s =
     record {
       changes = λ c b q h. changed-full s c b h;

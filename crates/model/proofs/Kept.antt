@@ -10,14 +10,14 @@ use lib.ListN.{length}
 use borrow.Author.Tests.{leb-false}
 use Rattle.model.specs.Lists.{isEmpty}
 use Rattle.model.specs.Floats.{float, zeroBits}
-use Rattle.model.specs.Entries.{Body, Entry}
-use Rattle.model.specs.Keys.{lostBit}
-use Rattle.model.specs.Changes.{changedBody, changedEntry, changedKeyed}
+use Rattle.model.specs.Entries.{Body, Entry, mapRows}
+use Rattle.model.specs.Keys.{lostBit, allLive}
+use Rattle.model.specs.Changes.{withRows, changedBody, changedEntry, changedKeyed}
 use Rattle.model.specs.Store.{Holding, withKeys, Tally, begun, weightOf, bodyOf, reweighed, gained, stored-or-dropped, settled, merge, mergeAll, mergedSplit, aboveCutoff}
 use Rattle.model.specs.Sum.{total, dividedBy, normalised, kept, trimmed, truncated, finished}
 use Rattle.model.specs.Channels.{Noise, arms, qubits, live, scaled, branchOf, branchesOf, noiseSplit, noiseTally, withCut, channelled}
 use Rattle.model.specs.Reset.{drained, resetSplit, resetTally}
-use Rattle.model.specs.Gates.{turnedBody, turned, gateQubits}
+use Rattle.model.specs.Gates.{turnedRow, turnedBody, turned, gateQubits}
 use Rattle.model.specs.Numbers.{Test, firstOf, someNotBelow, bothTheSame}
 use Rattle.model.specs.Keyless.{keyless}
 use Rattle.model.specs.Calls.{Call, noise, reset, gate, truncate, normalise, table, pick, sheet, view, page, Sum, changedTo, cutDown, argumentTests, act}
@@ -37,6 +37,10 @@ use Rattle.model.proofs.Yields.{Yields, given, not-given, yields-cond, 
 abbrev pub GateFits : ℕ → Gate → Type 0
 GateFits n g = (someNotBelow n (gateQubits g) || bothTheSame g) ≡ false
 
+either : {X : Type 0} (Q : X → Type 0) (t : Bool) {x y : X} → Q x → Q y → Q (cond t x y)
+either Q true p q = p
+either Q false p q = q
+
 -- ---- what is to be kept
 
 -- a predicate of what a list holds
@@ -45,10 +49,10 @@ pub record Kept {X : Type 0} (H : Holding X) (n : ℕ) (Q : X → Type 0) : Type
   pub changes : (c : BranchMutation) (x : X) → QubitsBelow n c → Q x → Q (H .changed c x)
   pub gates : (g : Gate) (x : X) → GateFits n g → Q x → Q (turned (H .weighed) n g x)
 
--- a predicate of bodies
+-- a predicate of bodies; of a gate, where it turns their rows
 pub record KeptBody (n : ℕ) (P : Body → Type 0) : Type 0 where
   pub changes : (c : BranchMutation) (b : Body) → QubitsBelow n c → P b → P (changedBody n c b)
-  pub gates : (g : Gate) (b : Body) → GateFits n g → P b → P (turnedBody n g b)
+  pub gates : (g : Gate) (b : Body) → GateFits n g → P b → P (withRows b (mapRows n (turnedRow g) (b .rows)))
 
 -- the entry that is put in is there, and a branch has the changed entry
 pub record Holds {X : Type 0} (H : Holding X) (n : ℕ) : Type 0 where
@@ -63,12 +67,14 @@ pub keyless-holds : (s : Size) (threshold : Float) → Holds (keyless s threshol
 keyless-holds s threshold = record { put = λ e x. refl; branch = λ c x. refl }
 
 pub body-kept : {X : Type 0} (H : Holding X) (n : ℕ) (P : Body → Type 0) → Holds H n → KeptBody n P → Kept H n (λ x. P (bodyOf (H .weighed) x))
-unfolding reweighed turned changedEntry
+unfolding reweighed turned turnedBody changedEntry
 body-kept H n P h k =
     record {
       weights = λ w x p. subst (λ (e : Entry). P (e .body)) (sym (h .put _ x)) p;
       changes = λ c x b p. subst (λ (e : Entry). P (e .body)) (sym (h .branch c x)) (k .changes c (bodyOf (H .weighed) x) b p);
-      gates = λ g x f p. subst (λ (e : Entry). P (e .body)) (sym (h .put _ x)) (k .gates g (bodyOf (H .weighed) x) f p);
+      gates = λ g x f p.
+          let b = bodyOf (H .weighed) x in
+          subst (λ (e : Entry). P (e .body)) (sym (h .put _ x)) (either P (allLive (b .loss) (gateQubits g)) (k .gates g b f p) p);
     }
 
 -- ---- the calls
@@ -119,13 +125,9 @@ module _ {X : Type 0} (H : Holding X) (n : ℕ) (Q : X → Type 0) (k : Kept H n
 
   -- channels
 
-  either : (t : Bool) {x y : X} → Q x → Q y → Q (cond t x y)
-  either true p q = p
-  either false p q = q
-
   scaled-keeps : (c : Noise) (x : X) → Q x → Q (scaled (H .weighed) c x)
   unfolding scaled
-  scaled-keeps c x p = either (live c (bodyOf (H .weighed) x)) (k .weights _ x p) p
+  scaled-keeps c x p = either Q (live c (bodyOf (H .weighed) x)) (k .weights _ x p) p
 
   branches-keep : (c : Noise) → Each (ArmBelow n) (arms c) → (x : X) → Q x → Each Q (branchesOf H c x)
   unfolding branchesOf branchOf

@@ -301,7 +301,7 @@ fn replay(given: &[u8], store: &mut [u64], text: &mut [u8]) {
     let mut calls = [0u64; LIST_WORDS];
     let mut at = 0;
     let mut i: usize = 0;
-    while i < 20_000 {
+    while i < 40_000 {
         at = test_support::skip(given, at);
         if given.len() <= at {
             return;

@@ -1,5 +1,5 @@
 -- The branches of one parent: merging changes only weights, so a parent goes on giving the branches that it gave at first. Assumes nothing.
-use mathlib.Core.Path.{_≡_, refl, sym, ap, ap₂, _∙_}
+use mathlib.Core.Path.{_≡_, refl, sym, ap, ap₂, subst, _∙_}
 use mathlib.Core.Bool.{Bool, true, false, cond, true≢false}
 use mathlib.Core.List.{List, [], _∷_, _++_, map, map-append}
 use Prim.Native.Nat.{ℕ, zero, suc, _+_, _*_, _-_, _≤_, _<_}
@@ -8,12 +8,12 @@ use native.Mathlib.Numerals.{add-one}
 use native.Mathlib.Omega.{arith}
 use lib.Dec.{eqb}
 use lib.Ieee.{Float, nan}
-use lib.ListN.{length, take, drop, getD, length-drop, length-append, length-map, List·getD-map}
+use lib.ListN.{length, take, getD, length-append, length-map, List·getD-map}
 use lib.Seq.{getD-take}
 use borrow.Author.Tests.{eqb-true}
 use Rattle.model.specs.Lists.{allBelow}
 use Rattle.model.specs.Floats.{float, bits, times}
-use Rattle.model.specs.Entries.{Keyed, xAt, zAt, headLen, coefsLen, rowsLen, entryLen, entryOf, stretch, listed}
+use Rattle.model.specs.Entries.{Keyed, xAt, zAt, entryLen, entryOf, stretch, listed}
 use Rattle.model.specs.Keys.{usualSalts}
 use Rattle.model.specs.Changes.{changedKeyed, changedEntry}
 use Rattle.model.specs.Store.{keyedWeighed, reweighed, mergeAll, testedAll, howMany}
@@ -23,13 +23,13 @@ use Rattle.model.specs.declared.BranchMutation.{BranchMutation}
 use Rattle.model.specs.declared.Size.{Size}
 use Rattle.model.proofs.Lists.{and-both, all-at}
 use Rattle.model.proofs.Groups.{stride-le}
-use Rattle.model.proofs.Entries.{listed-at, part-tail}
+use Rattle.model.proofs.Entries.{listed-at}
 use Rattle.model.specs.Sound.{Packed}
 use Rattle.model.proofs.Packed.{within}
 use Rattle.changes.specs.Changes.{changeOf}
 use Rattle.changes.specs.declared.Change.{Change}
-use Rattle.changes.specs.Tables.{firstTable, secondTable, changeAt}
-use Rattle.changes.proofs.Tables.{SamePaulis, branch-changes}
+use Rattle.changes.specs.Tables.{firstTable, secondTable, changeAt, walkedRows}
+use Rattle.changes.proofs.Tables.{SamePaulis, first-same, second-same, branch-changes}
 use Rattle.branch.specs.Same.{samePauli}
 use Rattle.arms.specs.Arms.{mutationAt, armAt, armsBelow, ShapeBelow}
 use Rattle.arms.specs.declared.Arms.{Arms}
@@ -37,7 +37,7 @@ use Rattle.arms.specs.declared.Shape.{Shape}
 use Rattle.arms.specs.declared.Shape.the-variants.{One, Lose, Two}
 use Rattle.model.specs.Qubits.{QubitsBelow}
 use Rattle.merging.specs.Progress.{unweighed, Light, Went, started}
-use Rattle.spread.specs.Branches.{TablesOf, parentAt, branchesBelow, liveAt, branchesBy, branchesUpTo}
+use Rattle.spread.specs.Branches.{TablesOf, TablesUpTo, parentAt, branchesBelow, liveAt, branchesBy, branchesUpTo}
 use Rattle.spread.specs.declared.Tables.{Tables}
 use Rattle.merging.specs.declared.Progress.{Progress}
 use Rattle.merging.proofs.Went.{all-there, two-runs}
@@ -72,23 +72,31 @@ same-tables {s} {h} {e} {x} u t =
     let rows = sym (same-rows e x u) in
     record { first = t .first ∙ ap (firstTable h (s .n)) rows; second = t .second ∙ ap (secondTable h (s .n)) rows }
 
--- the rows of a parent, as they are lent
-abbrev pub lentRows : Size → List ℕ → List ℕ
-lentRows s parent = take (length parent - (headLen + coefsLen s)) (drop (headLen + coefsLen s) parent)
+-- an entry with the x and z of another one, as far as tables are made from them, has its tables
+pub shared-tables : (s : Size) (h : Shape) {e x : Keyed} {t : Tables} → allBelow (samePauli (e .entry .body .rows) (x .entry .body .rows)) (walkedRows h (s .n)) ≡ true
+    → TablesOf s h e t → TablesOf s h x t
+shared-tables s h {e} {x} same t =
+    let rows = e .entry .body .rows in
+    let others = x .entry .body .rows in
+    record { first = t .first ∙ first-same h (s .n) rows others paulis; second = t .second ∙ second-same h (s .n) rows others paulis }
+  where
+    paulis : SamePaulis (walkedRows h (s .n)) (e .entry .body .rows) (x .entry .body .rows)
+    paulis i l =
+        let a = e .entry .body .rows in
+        let b = x .entry .body .rows in
+        let two = and-both (eqb (xAt a i) (xAt b i)) (eqb (zAt a i) (zAt b i)) (all-at (samePauli a b) (walkedRows h (s .n)) i same l) in
+        (eqb-true (xAt a i) (xAt b i) (two .0), eqb-true (zAt a i) (zAt b i) (two .1))
 
-pub rows-lent : (s : Size) (parent e : List ℕ) → parent ≡ e → lentRows s parent ≡ entryOf s e .entry .body .rows
-unfolding entryOf
-rows-lent s parent e h = part-tail (headLen + coefsLen s) parent ∙ ap (drop (headLen + coefsLen s)) h
+-- tables that are made of the entry at place i
+pub made-here : (s : Size) (h : Shape) (w : List ℕ) {t : Tables} {i : ℕ} → t .place ≡ i → TablesOf s h (entryOf s (stretch s w i)) t → TablesUpTo s h i w t
+made-here s h w {t} e p = record { low = omega (arith, e); tables = subst (λ (k : ℕ). TablesOf s h (entryOf s (stretch s w k)) t) (sym e) p }
 
-pub rows-long : (s : Size) (parent : List ℕ) → length parent ≡ entryLen s → length (lentRows s parent) ≡ rowsLen s
-rows-long s parent h = ap length (part-tail (headLen + coefsLen s) parent) ∙ length-drop (headLen + coefsLen s) parent ∙ (omega arith)
+pub up-to-next : {s : Size} {h : Shape} {w : List ℕ} {t : Tables} {i : ℕ} → TablesUpTo s h i w t → TablesUpTo s h (i + 1) w t
+up-to-next t = record { low = omega (arith, t .low); tables = t .tables }
 
--- rows that were tested have the same x and z
-pub paulis-same : {a b r t : List ℕ} {m k : ℕ} → a ≡ r → b ≡ t → m ≡ k → allBelow (samePauli a b) m ≡ true → SamePaulis k r t
-paulis-same {a} {b} {r} {t} {m} {k} ea eb em h i l =
-    let p : allBelow (samePauli r t) k ≡ true = rw (sym ea, sym eb, sym em) h in
-    let two = and-both (eqb (xAt r i) (xAt t i)) (eqb (zAt r i) (zAt t i)) (all-at (samePauli r t) k i p l) in
-    (eqb-true (xAt r i) (xAt t i) (two .0), eqb-true (zAt r i) (zAt t i) (two .1))
+-- an entry before one that lies in the store
+pub lies-before : {place i : ℕ} (s : Size) (w : List ℕ) → place ≤ i → i * entryLen s + entryLen s ≤ length w → place * entryLen s + entryLen s ≤ length w
+lies-before {place} {i} s w h l = omega (arith, stride-le (entryLen s) place (i + 1) (omega arith), l)
 
 -- a listed entry lies in the store
 pub inside : (s : Size) (count i : ℕ) (w : List ℕ) → Packed s count w → i < count → i * entryLen s + entryLen s ≤ length w
@@ -132,6 +140,14 @@ module _ (s : Size) (threshold cutoff : Float) where
       ∙ ap (λ (l : List Keyed). getD l i (unweighed d)) (t .front)
       ∙ List·getD-map unweighed (listed s (p .count) w) i d
       ∙ ap unweighed (listed-at s (p .count) i w d h)
+
+  -- so its tables are what they were, and were what they are
+  module _ {bs : List Keyed} {p q : Progress} {w v : List ℕ} (i : ℕ) (l : i < p .count) (t : Went s threshold cutoff bs p w q v) {h : Shape} {o : Tables} where
+    pub tables-now : TablesUpTo s h i w o → TablesUpTo s h i v o
+    tables-now u = record { low = u .low; tables = same-tables (still-there (o .place) (omega (arith, u .low)) t) (u .tables) }
+
+    pub tables-then : TablesUpTo s h i v o → TablesUpTo s h i w o
+    tables-then u = record { low = u .low; tables = same-tables (sym (still-there (o .place) (omega (arith, u .low)) t)) (u .tables) }
 
   module _ (r : Arms) (i old : ℕ) (p : Progress) (w : List ℕ) (h : i < p .count) where
     abbrev parent : Keyed

@@ -1,15 +1,13 @@
 -- The branches of the listed entries. Assumes nothing.
-use Prim.Native.Nat.{ℕ, zero, suc}
+use Prim.Native.Nat.{ℕ, zero, suc, _≤_}
 use mathlib.Core.Path.{_≡_}
 use mathlib.Core.Bool.{Bool, cond}
 use mathlib.Core.List.{List, [], _++_, map}
-use lib.Dec.{eqb}
 use lib.Ieee.{Float}
 use lib.ListN.{getD}
-use Rattle.model.specs.Lists.{every}
 use Rattle.model.specs.Floats.{float, bits, times}
 use Rattle.model.specs.Entries.{Keyed, entryOf, stretch}
-use Rattle.model.specs.Keys.{bit}
+use Rattle.model.specs.Keys.{allLive}
 use Rattle.model.specs.Store.{keyedWeighed, reweighed}
 use Rattle.model.specs.Channels.{branchOf}
 use Rattle.model.specs.Calls.{engine}
@@ -22,10 +20,19 @@ use Rattle.spread.specs.declared.Tables.{Tables}
 
 -- ---- the branches of one parent
 
+-- the rows of the entry at place i
+abbrev pub rowsAt : Size → List ℕ → ℕ → List ℕ
+rowsAt s w i = entryOf s (stretch s w i) .entry .body .rows
+
 -- the tables of what they change of the parent e
 pub record TablesOf (s : Size) (h : Shape) (e : Keyed) (t : Tables) : Type 0 where
   pub first : t .first ≡ firstTable h (s .n) (e .entry .body .rows)
   pub second : t .second ≡ secondTable h (s .n) (e .entry .body .rows)
+
+-- .. of an entry at a place up to i, the one where they were made
+pub record TablesUpTo (s : Size) (h : Shape) (i : ℕ) (w : List ℕ) (t : Tables) : Type 0 where
+  pub low : t .place ≤ i
+  pub tables : TablesOf s h (entryOf s (stretch s w (t .place))) t
 
 -- the parent that stands at place i, with the weight it had
 abbrev pub parentAt : Size → List ℕ → ℕ → ℕ → Keyed
@@ -39,7 +46,7 @@ branchesBelow s threshold r m x = map (branchOf (engine s threshold) x) (armsBel
 
 -- none of these qubits is lost
 unfoldable pub liveAt : Shape → ℕ → Bool
-liveAt h loss = every (λ q. eqb (bit q loss) 0) (shapeQubits h)
+liveAt h loss = allLive loss (shapeQubits h)
 
 -- a live one's weight, times what is left of it
 unfoldable pub scaledBy : Shape → Float → Keyed → Keyed

@@ -9,6 +9,7 @@ ghost use mathlib.Core.Path.{_≡_};
 ghost use mathlib.Core.List.{[], map};
 ghost use Prim.Native.Nat.{_+_, _*_, _<_, _≤_};
 ghost use lib.ListN.{length, take};
+ghost use Rattle.model.specs.Lists.{allBelow};
 ghost use Rattle.model.specs.Entries.{entryLen, entryOf, stretch, listed};
 ghost use Rattle.model.specs.Keys.{usualSalts};
 ghost use Rattle.model.specs.Store.{keyedWeighed, weightOf};
@@ -21,10 +22,13 @@ ghost use Rattle.changes.specs.Tables.{walkedRows};
 ghost use Rattle.seeking.specs.Noted.{seenAt, Noted};
 ghost use Rattle.spread.specs.Spread.{Spread};
 ghost use Rattle.merging.specs.Progress.{Went, Light, started};
-ghost use Rattle.spread.specs.Branches.{TablesOf, parentAt, branchesBelow, liveAt, scaledBy, branchesUpTo};
+ghost use Rattle.branch.specs.Same.{samePauli};
+ghost use Rattle.spread.specs.Branches.{rowsAt, TablesOf, TablesUpTo, parentAt, branchesBelow, liveAt, scaledBy, branchesUpTo};
 
-// What the branches of an entry change, as two tables (crates/changes): for its first Pauli, and for its second or its only one.
+// What the branches of an entry change, as two tables (crates/changes): for its first Pauli, and for its second or its only one; and the
+// place of an entry that they are made from.
 pub struct Tables {
+    pub place: usize,
     pub first: [u64; 12],
     pub second: [u64; 12],
 }
@@ -35,40 +39,53 @@ pub struct Parent {
     pub weight: u64,
 }
 
-// ---- tables
+// ---- tables. Entries that came from one by Paulis and losses have the same x and z, and so the same tables; gates part them by their loss
+// patterns.
 
-// Those of the entry with the words e.
-fn tables_of(e: &[u64], masks: &[u64; 128], size: Size, shape: Shape) -> Tables
-    requires { ⌜ Within size × (length (now e) ≡ entryLen size) × ShapeBelow 64 shape × SignMasks usualSalts (walkedRows shape (size .n)) (now masks) ⌝ }
-    ensures { λ r. ⌜ TablesOf size shape (entryOf size (now (e .entry))) r ⌝ }
+// Those of the entry at this place.
+fn tables_of(store: &[u64], masks: &[u64; 128], size: Size, shape: Shape, place: usize) -> Tables
+    requires { ⌜ Within size × (place * entryLen size + entryLen size ≤ length (now store)) × ShapeBelow 64 shape × SignMasks usualSalts (walkedRows shape (size .n)) (now masks) ⌝ }
+    ensures { λ r. ⌜ (r .place ≡ place) × TablesOf size shape (entryOf size (stretch size (now (store .entry)) place)) r ⌝ }
 {
-    let rows = 5 + 3 * size.k;
-    let first = changes::first_table(masks, size.n, &e[rows..], shape);
-    let second = changes::second_table(masks, size.n, &e[rows..], shape);
-    Tables { first, second }
+    let rows = entries::rows_of(store, size, place);
+    let first = changes::first_table(masks, size.n, rows, shape);
+    let second = changes::second_table(masks, size.n, rows, shape);
+    Tables {
+        place,
+        first,
+        second,
+    }
 }
 
-// Those of the entry at place i, with those of the first entry at hand. Entries that came from one by Paulis and losses have the same x and
-// z, and so the same tables.
+// The entries at the two places have the same x and z, as far as tables are made from them.
+fn same_at(store: &[u64], size: Size, shape: Shape, i: usize, j: usize) -> bool
+    requires { ⌜ Within size × (i * entryLen size + entryLen size ≤ length (now store)) × (j * entryLen size + entryLen size ≤ length (now store)) ⌝ }
+    ensures { λ r. ⌜ r ≡ allBelow (samePauli (rowsAt size (now (store .entry)) i) (rowsAt size (now (store .entry)) j)) (walkedRows shape (size .n)) ⌝ }
+{
+    let walked = changes::walked_rows(shape, size.n);
+    branch::same_paulis(
+        entries::rows_of(store, size, i),
+        entries::rows_of(store, size, j),
+        walked,
+    )
+}
+
+// Those of the entry at place i, with some at hand that may be the same.
 fn tables_at(
     store: &[u64],
     masks: &[u64; 128],
     size: Size,
     shape: Shape,
-    first: Tables,
+    tables: Tables,
     i: usize,
 ) -> Tables
-    requires { ⌜ Within size × (i * entryLen size + entryLen size ≤ length (now store)) × ShapeBelow 64 shape × SignMasks usualSalts (walkedRows shape (size .n)) (now masks) × TablesOf size shape (entryOf size (stretch size (now store) 0)) first ⌝ }
-    ensures { λ r. ⌜ TablesOf size shape (entryOf size (stretch size (now (store .entry)) i)) r ⌝ }
+    requires { ⌜ Within size × (i * entryLen size + entryLen size ≤ length (now store)) × ShapeBelow 64 shape × SignMasks usualSalts (walkedRows shape (size .n)) (now masks) × TablesUpTo size shape i (now store) tables ⌝ }
+    ensures { λ r. ⌜ TablesUpTo size shape i (now (store .entry)) r × TablesOf size shape (entryOf size (stretch size (now (store .entry)) i)) r ⌝ }
 {
-    let rows = 5 + 3 * size.k;
-    let parent = entries::entry(store, size, i);
-    let leader = entries::entry(store, size, 0);
-    let walked = changes::walked_rows(shape, size.n);
-    if branch::same_paulis(&leader[rows..], &parent[rows..], walked) {
-        return first;
+    if same_at(store, size, shape, tables.place, i) {
+        return tables;
     }
-    tables_of(parent, masks, size, shape)
+    tables_of(store, masks, size, shape, i)
 }
 
 // ---- parents
@@ -116,14 +133,9 @@ pub fn is_live(shape: Shape, loss: u64) -> bool
     ensures { λ r. ⌜ r ≡ liveAt shape loss ⌝ }
 {
     match shape {
-        Shape::One(q) => (loss >> q) % 2 == 0,
-        Shape::Lose(q) => (loss >> q) % 2 == 0,
-        Shape::Two(p, q) => {
-            if (loss >> p) % 2 == 0 {
-                return (loss >> q) % 2 == 0;
-            }
-            false
-        }
+        Shape::One(q) => entries::is_live(loss, q),
+        Shape::Lose(q) => entries::is_live(loss, q),
+        Shape::Two(p, q) => entries::both_live(loss, p, q),
     }
 }
 
@@ -152,7 +164,8 @@ pub fn scale_parents(store: &mut [u64], size: Size, count: usize, shape: Shape, 
     }
 }
 
-// The branches of every live parent, in list order, merged. The parents are scaled; `saved` has the weights they had.
+// The branches of every live parent, in list order, merged. The parents are scaled; `saved` has the weights they had. At hand are the tables of
+// the last parent, and those of the last one that had others.
 pub fn merge_parents(
     store: &mut [u64],
     keys: &mut [u64; 256],
@@ -170,15 +183,20 @@ pub fn merge_parents(
     let shape = arms.shape;
     let len = entries::entry_len(size);
     let masks = changes::sign_masks(keys::usual_salts(), changes::walked_rows(shape, size.n));
-    let first = tables_of(entries::entry(store, size, 0), &masks, size, shape);
+    let mut last = tables_of(&store[..], &masks, size, shape, 0);
+    let mut before = last;
     let mut q = merging::start(count);
     let mut i = 0;
     while i < count {
         if is_live(shape, store[i * len + 1]) {
-            let tables = tables_at(&store[..], &masks, size, shape, first, i);
+            if !same_at(&store[..], size, shape, last.place, i) {
+                let found = tables_at(&store[..], &masks, size, shape, before, i);
+                before = last;
+                last = found;
+            }
             let weight = saved[i];
             let parent = Parent { place: i, weight };
-            q = merge_arms(store, keys, firsts, limits, arms, tables, parent, q);
+            q = merge_arms(store, keys, firsts, limits, arms, last, parent, q);
         }
         i += 1;
     }

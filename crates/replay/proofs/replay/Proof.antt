@@ -7,10 +7,10 @@ use Rattle.replay.proofs.replay.Statement.{statement}
 use Rattle.replay.proofs.replay.Tie as tie
 
 abbrev Inv-loop : tie.InvT-loop
-Inv-loop given store₀ text₀ state₀ item₀ calls₀ at₀ i₀ store text state item calls at i = (i ≤ 20000) × (length store ≡ length store₀) × (length text ≡ length text₀) × (length item ≡ 18) × (length calls ≡ 1152)
+Inv-loop given store₀ text₀ state₀ item₀ calls₀ at₀ i₀ store text state item calls at i = (i ≤ 40000) × (length store ≡ length store₀) × (length text ≡ length text₀) × (length item ≡ 18) × (length calls ≡ 1152)
 
 abbrev μ-loop : tie.MeasureT-loop
-μ-loop given store₀ text₀ state₀ item₀ calls₀ at₀ i₀ store text state item calls at i = 20000 - i
+μ-loop given store₀ text₀ state₀ item₀ calls₀ at₀ i₀ store text state item calls at i = 40000 - i
 
 loop-holds : tie.Need-loop-holds Inv-loop μ-loop
 loop-holds c = search needs

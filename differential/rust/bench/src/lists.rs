@@ -1,4 +1,4 @@
-//! The lists that are timed: whole circuits from a fresh sum, and gates alone on the sums of sums.rs. K is 1.
+//! The lists that are timed: whole circuits from a fresh sum, and on the sums of sums.rs gates alone, and gates around a channel. K is 1.
 
 use crate::circuit::{Circuit, read};
 use crate::sums::{Kin, sum};
@@ -42,7 +42,7 @@ impl Start {
 }
 
 pub fn all() -> Vec<List> {
-    let mut lists = ["ghz", "surface", "instructions", "python_rates", "resets"].map(example).to_vec();
+    let mut lists = ["ghz", "surface", "instructions", "python_rates", "resets", "lost_atoms"].map(example).to_vec();
     lists.extend([2, 3].map(|times| rounds("surface", times)));
     // with ghz.stim's cutoff, 64 atoms take 258 entries: two too many
     lists.extend([(4, 5e-4), (16, 5e-4), (64, 8e-4)].map(|(n, cutoff)| chain(n, cutoff)));
@@ -50,6 +50,7 @@ pub fn all() -> Vec<List> {
         for kind in ["mixed", "H", "S", "CNOT"] {
             lists.extend([0, 1, 16, 64].map(|count| gates(kind, n, count)));
         }
+        lists.extend([16, 64, 200].map(|count| after_losses(n, count)));
     }
     lists
 }
@@ -119,4 +120,16 @@ fn gates(kind: &str, n: usize, count: usize) -> List {
     };
     let calls = (0..GATES).map(|_| gate()).collect();
     List { name: format!("gates {kind}"), start: Start::Holding(sum(n, 1, count, Kin::Strangers, 0.0)), calls }
+}
+
+/// A hundred times: gates on an atom that half of the entries have lost, a channel at another one all of whose branches merge, and gates again.
+fn after_losses(n: usize, count: usize) -> List {
+    let before = [Call::H(0), Call::Cnot(0, 2), Call::S(0)];
+    let after = [Call::Cnot(3, 0), Call::S(3), Call::H(0)];
+    let round = [&before[..], &[Call::Pauli(1, [0.01, 0.02, 0.03])], &after].concat();
+    List {
+        name: "half lost, gates, Pauli".to_string(),
+        start: Start::Holding(sum(n, 1, count, Kin::HalfLostAtOther, 0.0)),
+        calls: round.repeat(100),
+    }
 }

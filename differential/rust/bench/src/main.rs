@@ -22,7 +22,7 @@ use oracle::{Call, Published, Sum, entry_len, rows_at};
 use ours::Ours;
 use std::hint::black_box;
 use std::time::Duration;
-use sums::{Kin, sum};
+use sums::{Kin, parted, sum};
 use timing::{Runs, Time};
 
 /// The turns that each side of a row takes.
@@ -82,6 +82,7 @@ fn rows(n: usize, k: usize, count: usize) -> Vec<Row> {
     let one = sum(n, k, count, Kin::OneQubit, 0.0);
     let two = sum(n, k, count / 16 * 16, Kin::TwoQubits, 0.0);
     let halves = sum(n, k, count, Kin::HalfLost, 0.0);
+    let mixed = sum(n, k, count, Kin::HalfLostAtOther, 0.0);
 
     row("Pauli, all merge", &one, pauli);
     row("Pauli, all merge, dirty", &Sum { dirty: true, ..one.clone() }, pauli);
@@ -100,6 +101,9 @@ fn rows(n: usize, k: usize, count: usize) -> Vec<Row> {
         row("loss, all stored", &strangers, Timed::Call(Call::Loss(0, 0.1)));
     }
     row("reset, half lost, all merge", &halves, Timed::Call(Call::Reset(0)));
+    let other = Timed::Call(Call::Pauli(1, [0.01, 0.02, 0.03]));
+    row("Pauli, half lost", &mixed, other);
+    row("Pauli, half lost, parted", &parted(&mixed), other);
     if k > 1 {
         row("Pauli, by lookup", &near(&one), pauli);
         row("two-qubit Pauli, by lookup", &near(&two), Timed::Call(Call::TwoPauli(0, 1, [0.01; 15])));
@@ -111,6 +115,8 @@ fn rows(n: usize, k: usize, count: usize) -> Vec<Row> {
     row("H", &strangers, Timed::Call(Call::H(0)));
     row("S", &strangers, Timed::Call(Call::S(0)));
     row("CNOT", &strangers, Timed::Call(Call::Cnot(0, 1)));
+    row("H, half lost", &halves, Timed::Call(Call::H(0)));
+    row("CNOT, half lost", &halves, Timed::Call(Call::Cnot(1, 0)));
     row("table", &strangers, Timed::Table);
     row("table and pick", &strangers, Timed::Pick);
     row("write sheet", &strangers, Timed::WriteSheet);

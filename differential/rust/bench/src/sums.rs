@@ -13,6 +13,8 @@ pub enum Kin {
     TwoQubits,
     /// Every second entry is the one before it, lost at qubit 0.
     HalfLost,
+    /// The same, and Paulis at qubit 1 make one entry another.
+    HalfLostAtOther,
 }
 
 /// `count` entries of equal weight with right keys. They have the same rows, those of a random-looking circuit, but for phases.
@@ -23,6 +25,16 @@ pub fn sum(n: usize, k: usize, count: usize, kin: Kin, cutoff: f64) -> Sum {
     sum.words = (0..count).flat_map(|i| entry(&first, n, k, count, i, kin)).collect();
     sum.dirty = true;
     Published::load(&sum).rebuilt()
+}
+
+/// The sum after gates at qubit 0, with right keys: entries that are lost there, which the gates passed over, have other x and z than the
+/// rest.
+pub fn parted(sum: &Sum) -> Sum {
+    let mut p = Published::load(sum);
+    for gate in [Call::H(0), Call::S(0)] {
+        p.call(gate);
+    }
+    p.rebuilt()
 }
 
 /// One entry: the fresh one after three layers of gates.
@@ -55,11 +67,13 @@ fn entry(first: &[u64], n: usize, k: usize, count: usize, i: usize, kin: Kin) ->
         Kin::OneQubit => (4, i),
         Kin::TwoQubits => (16, i),
         Kin::HalfLost => (1, i / 2),
+        Kin::HalfLostAtOther => (4, i / 2),
     };
-    e[1] = (kin == Kin::HalfLost && i % 2 == 1) as u64;
+    e[1] = (matches!(kin, Kin::HalfLost | Kin::HalfLostAtOther) && i % 2 == 1) as u64;
     let (pauli, number) = (each % paulis, each / paulis);
+    let paulis = if kin == Kin::HalfLostAtOther { [0, pauli] } else { [pauli % 4, pauli / 4] };
     for (row, r) in e[rows_at(k)..].chunks_exact_mut(3).enumerate() {
-        for (q, op) in [pauli % 4, pauli / 4].into_iter().enumerate() {
+        for (q, op) in paulis.into_iter().enumerate() {
             let (x, z) = (r[0] >> q & 1, r[1] >> q & 1);
             r[2] ^= 2 * [0, z, x ^ z, x][op];
         }

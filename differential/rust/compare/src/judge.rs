@@ -78,7 +78,7 @@ fn rates_sound(call: Call) -> bool {
     }
 }
 
-fn listed(o: &Ours) -> impl Iterator<Item = &[u64]> {
+pub fn listed(o: &Ours) -> impl Iterator<Item = &[u64]> {
     o.store.chunks_exact(entry_len(o.header.size)).take(o.header.count)
 }
 

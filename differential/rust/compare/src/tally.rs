@@ -13,6 +13,8 @@ pub struct Tally {
     counts: [u64; 4],
     /// Calls that dropped weight, and such that truncated some.
     lost: [usize; 2],
+    /// Accepted gates; those that passed over some entries, for a lost atom; those that passed over all of them.
+    gates: [usize; 3],
 }
 
 impl Tally {
@@ -20,7 +22,10 @@ impl Tally {
     pub fn call(&mut self, from: &str, pair: &mut Pair, call: Call, d: &mut Draw) {
         let (before, seed) = (pair.ours.clone(), d.0);
         match called(pair, call, d) {
-            Ok(a) => self.count(&a),
+            Ok(a) => {
+                self.count(&a);
+                self.count_gate(&before, call, a.number);
+            }
             Err(what) => tell(from, &what, before, call, seed),
         }
     }
@@ -36,6 +41,21 @@ impl Tally {
         }
     }
 
+    fn count_gate(&mut self, before: &Ours, call: Call, number: u64) {
+        let qubits = match call {
+            Call::H(q) | Call::S(q) => [q, q],
+            Call::Cnot(a, b) => [a, b],
+            _ => return,
+        };
+        if number == 0 {
+            let lost = |e: &&[u64]| qubits.iter().any(|q| e[1] >> q & 1 == 1);
+            let passed = judge::listed(before).filter(lost).count();
+            self.gates[0] += 1;
+            self.gates[1] += (0 < passed && passed < before.header.count) as usize;
+            self.gates[2] += (0 < passed && passed == before.header.count) as usize;
+        }
+    }
+
     pub fn print(&self, part: &str) {
         let numbers: Vec<String> = (1..11).filter(|&n| self.refused[n] > 0).map(|n| format!("{n}: {}", self.refused[n])).collect();
         let numbers = if numbers.is_empty() { "none".to_string() } else { numbers.join(", ") };
@@ -43,6 +63,8 @@ impl Tally {
         println!("{part}: {} calls agree; {} accepted, then looked at; refused {numbers}", self.calls, self.refused[0]);
         println!("    branches merged {merged}, stored {stored}, dropped {dropped}; full comparisons {compared}");
         println!("    weight was dropped by {} calls, truncated by {}", self.lost[0], self.lost[1]);
+        let [gates, some, all] = self.gates;
+        println!("    gates {gates}, of which {some} passed over some entries, for a lost atom, and {all} over all");
     }
 }
 

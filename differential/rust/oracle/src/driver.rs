@@ -113,12 +113,17 @@ fn words(s: &Store, k: usize) -> Vec<u64> {
 
 // ---- calls
 
-fn gate<S: EntryStore<Row, u64, Coeffs>>(s: &mut Summed<S>, f: impl Fn(&mut Tab)) {
-    s.entries.for_each_mut(|t, _| f(t));
+/// A gate passes over the entries that have lost one of its qubits, and marks the keys in any case: document 02, request 5.
+fn gate<S: EntryStore<Row, u64, Coeffs>>(s: &mut Summed<S>, qubits: &[usize], turn: impl Fn(&mut Tab)) {
+    s.entries.for_each_mut(|t, _| {
+        if !qubits.iter().any(|&q| t.is_lost(q)) {
+            turn(t)
+        }
+    });
     s.entries.mark_keys_dirty();
 }
 
-/// One call of the published code. Gates are the substitute's, on every entry.
+/// One call of the published code. Gates are the substitute's.
 fn make<S: EntryStore<Row, u64, Coeffs>>(s: &mut Summed<S>, call: Call) {
     match call {
         Call::Pauli(q, p) => s.pauli_error(q, p),
@@ -127,9 +132,9 @@ fn make<S: EntryStore<Row, u64, Coeffs>>(s: &mut Summed<S>, call: Call) {
         Call::TwoPauli(a, b, p) => s.two_qubit_pauli_error(a, b, p),
         Call::Depolarize2(a, b, p) => s.depolarize2(a, b, p),
         Call::Reset(q) => s.reset_loss_channel(q),
-        Call::H(q) => gate(s, |t| t.h(q)),
-        Call::S(q) => gate(s, |t| t.s(q)),
-        Call::Cnot(a, b) => gate(s, |t| t.cnot(a, b)),
+        Call::H(q) => gate(s, &[q], |t| t.h(q)),
+        Call::S(q) => gate(s, &[q], |t| t.s(q)),
+        Call::Cnot(a, b) => gate(s, &[a, b], |t| t.cnot(a, b)),
         Call::Truncate => s.truncate(),
         Call::Normalise => s.normalize_probabilities(),
     }
