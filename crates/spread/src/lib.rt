@@ -6,6 +6,7 @@ use merging::Limits;
 use merging::Progress;
 use model::Size;
 ghost use mathlib.Core.Path.{_≡_};
+ghost use mathlib.Core.Bool.{true};
 ghost use mathlib.Core.List.{[], map};
 ghost use Prim.Native.Nat.{_+_, _*_, _<_, _≤_};
 ghost use lib.ListN.{length, take};
@@ -57,17 +58,23 @@ fn tables_of(store: &[u64], masks: &[u64; 128], size: Size, shape: Shape, place:
     }
 }
 
-// The entries at the two places have the same x and z, as far as tables are made from them.
+// The entries at the two places have the same x and z, as far as tables are made from them. Stored word keys (word 2) that differ tell most
+// that have not; a word key that is wrong costs time only.
 fn same_at(store: &[u64], size: Size, shape: Shape, i: usize, j: usize) -> bool
     requires { ⌜ Within size × (i * entryLen size + entryLen size ≤ length (now store)) × (j * entryLen size + entryLen size ≤ length (now store)) ⌝ }
-    ensures { λ r. ⌜ r ≡ allBelow (samePauli (rowsAt size (now (store .entry)) i) (rowsAt size (now (store .entry)) j)) (walkedRows shape (size .n)) ⌝ }
+    ensures { λ r. ⌜ (r ≡ true → allBelow (samePauli (rowsAt size (now (store .entry)) i) (rowsAt size (now (store .entry)) j)) (walkedRows shape (size .n)) ≡ true) ⌝ }
 {
     let walked = changes::walked_rows(shape, size.n);
-    branch::same_paulis(
-        entries::rows_of(store, size, i),
-        entries::rows_of(store, size, j),
-        walked,
-    )
+    if walked == 0 {
+        return true;
+    }
+    let len = entries::entry_len(size);
+    if store[i * len + 2] != store[j * len + 2] {
+        return false;
+    }
+    let a = entries::rows_of(store, size, i);
+    let b = entries::rows_of(store, size, j);
+    branch::same_paulis(a, b, walked)
 }
 
 // Those of the entry at place i, with some at hand that may be the same.

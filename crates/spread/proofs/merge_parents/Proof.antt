@@ -87,7 +87,7 @@ found c =
     let d = c .before .before .before .before .before .before in
     ⊎-elim
     (λ w. rw (w .4, w .5) (w .3 .ensures .0, w .3 .ensures .1, last-now d))
-    (λ w. rw (w .1, w .2) (last-now d, shared-tables (a .limits .size) (a .arms .shape) (sym (c .before .same-at .ensures) ∙ not-false (c .before .same-at .result) (w .0 .left)) (last-now d .tables), before-now d))
+    (λ w. rw (w .1, w .2) (last-now d, shared-tables (a .limits .size) (a .arms .shape) (c .before .same-at .ensures (not-false (c .before .same-at .result) (w .0 .left))) (last-now d .tables), before-now d))
     (c .if2 .came)
 
 entry-len-requires : tie.Need-entry-len-requires Inv-loop μ-loop

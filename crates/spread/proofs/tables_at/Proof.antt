@@ -1,6 +1,5 @@
 -- `spread::tables_at` meets its contract: where the entry has the x and z of the one that the tables at hand are made from, they are its own.
 -- Assumes nothing.
-use mathlib.Core.Path.{sym, _∙_}
 use denote.Ref.{now}
 use Rattle.spread.proofs.Parents.{made-here, shared-tables, lies-before}
 use borrow.Author.Needs.{needs}
@@ -15,7 +14,7 @@ same-at-requires c κs =
 returns : tie.Need-returns
 returns c =
     let s = c .before .before .before in
-    (s .pre .4, shared-tables (s .args .size) (s .args .shape) (sym (c .before .same-at .ensures) ∙ c .if1 .taken) (s .pre .4 .tables))
+    (s .pre .4, shared-tables (s .args .size) (s .args .shape) (c .before .same-at .ensures (c .if1 .taken)) (s .pre .4 .tables))
 
 tables-of-requires : tie.Need-tables-of-requires
 tables-of-requires c κs = search needs

@@ -1,4 +1,4 @@
-//! Each limit and its neighbour, on sums of the least and the largest size.
+//! Each limit and its neighbour, on sums of the least and the largest size; and gates on every set of lost atoms.
 
 use crate::collision;
 use crate::draw::{Draw, LEAST};
@@ -23,6 +23,7 @@ pub fn run() {
     for k in [MAX_COEFFICIENTS, MAX_COEFFICIENTS + 1, 64] {
         coefficients(k, &mut tally);
     }
+    lost_atoms(&mut tally);
     tally.print("limits");
     refused_fresh();
     println!("limits of fresh agree");
@@ -139,6 +140,27 @@ fn coefficients(k: usize, tally: &mut Tally) {
     o.store.resize(32 * entry_len(o.header.size), 0);
     for call in calls(2) {
         tally.call(&format!("limits of K: {k}"), &mut Pair::load(o.clone()), call, &mut Draw(0));
+    }
+}
+
+/// Every gate on eight entries, one for each set of three atoms that are lost: with the sum dirty and not.
+fn lost_atoms(tally: &mut Tally) {
+    let (mut o, _) = Ours::fresh(Size { n: 3, k: 1, capacity: 8 }, 0.5, 0.0);
+    for call in [Call::H(0), Call::Cnot(0, 1), Call::S(1), Call::H(2), Call::Cnot(2, 1), Call::S(2), Call::H(1)] {
+        o.call(call);
+    }
+    let len = entry_len(o.header.size);
+    for place in 1..8 {
+        o.store.copy_within(..len, place * len);
+        o.store[place * len + 1] = place as u64;
+    }
+    o.header.count = 8;
+    let others = |a: usize| (0..3).filter(move |b| *b != a).map(move |b| Call::Cnot(a, b));
+    for call in (0..3).flat_map(|a| [Call::H(a), Call::S(a)].into_iter().chain(others(a))) {
+        for dirty in [false, true] {
+            o.header.dirty = dirty;
+            tally.call("lost atoms", &mut Pair::load(o.clone()), call, &mut Draw(0));
+        }
     }
 }
 
