@@ -17,7 +17,7 @@ def entangled(capacity=256, cutoff=0.0):
 
 
 def after_losses():
-    """One qubit of a CNOT lost, the other one, both, and one that the gates do not name; then channels, resets, and gates again."""
+    """One qubit of a CNOT lost, the other one, both, the third one, and all; then channels, resets, and gates again."""
     for lost in (0,), (1,), (0, 1), (2,), (0, 1, 2):
         run = entangled()
         run.call(*(loss(0.25, q) for q in lost), *GATES, *MERGING)

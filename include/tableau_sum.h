@@ -283,8 +283,8 @@ TABLEAU_SUM_CALL tableau_sum_answer tableau_sum_depolarize2(tableau_sum_header h
  */
 TABLEAU_SUM_CALL tableau_sum_answer tableau_sum_reset_loss_channel(tableau_sum_header h, uint64_t *store, size_t store_len, size_t q);
 
-/* ---- gates: on the rows of every entry that has not lost a qubit of the gate; the others stay as they are, whichever of CNOT's two is lost.
- * The sum is dirty afterwards, also if no entry was turned. (Up to request 5 of document 02 gates turned lost atoms too) */
+/* ---- gates: on the rows of every entry that has not lost a qubit of the gate; the others stay as they are, whichever of CNOT's two is
+ * lost. The sum is dirty afterwards, also if no entry was turned. (Up to request 5 of document 02 gates turned lost atoms too.) */
 
 /*
  * H at qubit q.

@@ -32,10 +32,10 @@
 //!
 //! Proved of the library: each call gives exactly what document 01 of the project says, the page what request 1 of document 02 says, the
 //! trials what request 2 says, and the gates, on lost atoms, what request 5 says (request 3 changes no call, request 4 is the limit
-//! [`MAX_COEFFICIENTS`], and its other requests are not built), for every input; it ends, stays inside the memory that it is lent, and changes nothing if it is refused; no list of calls leaves
-//! stale keys behind that make a branch miss its equal. The library never panics and never unwinds. It has no state of its own, so a
-//! [`TableauSum`] is [`Send`] and [`Sync`] like the vector that it owns. In a thread with a small stack, [`STACK_BYTES`] says what a call
-//! takes.
+//! [`MAX_COEFFICIENTS`], and its other requests are not built), for every input; it ends, stays inside the memory that it is lent, and
+//! changes nothing if it is refused; no list of calls leaves stale keys behind that make a branch miss its equal. The library never panics
+//! and never unwinds. It has no state of its own, so a [`TableauSum`] is [`Send`] and [`Sync`] like the vector that it owns. In a thread
+//! with a small stack, [`STACK_BYTES`] says what a call takes.
 //!
 //! Not proved, but tested: this crate, which lends the library the memory.
 //!

@@ -14,7 +14,7 @@ use Rattle.model.specs.declared.Size.{Size}
 use Rattle.model.proofs.Packed.{Fits, entry-words, words-length}
 use Rattle.model.proofs.Rows.{mapRows-length}
 use Rattle.branch.specs.Made.{madeBranch}
-use Rattle.branch.proofs.Words.{entry-fits}
+use Rattle.model.proofs.Packs.{entry-fits}
 
 module _ (salts : Salts) (s : Size) where
   -- a change keeps the number of coefficients' words and of rows

@@ -1,27 +1,16 @@
 -- An entry's words with a word written: the words of the entry with its weight, or with its key and loss word changed. Assumes nothing.
 use mathlib.Core.Path.{_≡_, refl, sym, ap, _∙_}
 use mathlib.Core.List.{List}
-use Prim.Native.Nat.{ℕ, _+_, _^_}
-use native.Mathlib.Omega.{arith}
+use Prim.Native.Nat.{ℕ, _^_}
 use lib.Bits.{bitXor}
-use lib.ListN.{length, getD, set, drop, length-drop}
-use lib.Seq.{length-take-le}
-use Rattle.model.specs.Entries.{Keyed, headLen, coefsLen, entryLen, wordsOf, entryOf}
+use lib.ListN.{length, getD, set}
+use Rattle.model.specs.Entries.{Keyed, entryLen, wordsOf, entryOf}
 use Rattle.model.specs.Keys.{usualSalts}
 use Rattle.model.specs.Changes.{masksOf, changedBody, changedEntry, changedKeyed}
 use Rattle.model.specs.Store.{keyedWeighed, reweighed}
 use Rattle.model.specs.declared.BranchMutation.the-variants.{Loss as loss}
 use Rattle.model.specs.declared.Size.{Size}
-use Rattle.model.proofs.Packed.{Fits, words-entry}
-
--- the entry of a stretch has as many words as the size says
-pub entry-fits : (s : Size) (w : List ℕ) → length w ≡ entryLen s → Fits s (entryOf s w)
-unfolding entryOf
-entry-fits s w l =
-    record {
-      coefs = length-take-le (coefsLen s) (drop headLen w) (omega (arith, length-drop headLen w));
-      rows = length-drop (headLen + coefsLen s) w ∙ (omega arith);
-    }
+use Rattle.model.proofs.Packed.{words-entry}
 
 -- ---- the weight
 

@@ -21,7 +21,7 @@ use Rattle.model.proofs.Packed.{Fits, entry-words, words-length, within, set-li
 use Rattle.changes.specs.Changes.{lossChange}
 use Rattle.changes.specs.declared.Change.{Change}
 use Rattle.merging.proofs.Merge.{weight-set}
-use Rattle.branch.proofs.Words.{entry-fits}
+use Rattle.model.proofs.Packs.{entry-fits}
 use Rattle.branch.proofs.Made.{changed-fits}
 use Rattle.entries.proofs.Slots.{part}
 use Rattle.reset.specs.Return.{live, liveAt}

@@ -40,8 +40,8 @@ pub struct Parent {
     pub weight: u64,
 }
 
-// ---- tables. Entries that came from one by Paulis and losses have the same x and z, and so the same tables; gates part them by their loss
-// patterns.
+// ---- tables. Entries that came from one by Paulis and losses have the same x and z, and so the same tables; a gate parts those that it turns
+// from those that it passes over.
 
 // Those of the entry at this place.
 fn tables_of(store: &[u64], masks: &[u64; 128], size: Size, shape: Shape, place: usize) -> Tables

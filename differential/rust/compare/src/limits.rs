@@ -147,7 +147,7 @@ fn coefficients(k: usize, tally: &mut Tally) {
 fn lost_atoms(tally: &mut Tally) {
     let (mut o, _) = Ours::fresh(Size { n: 3, k: 1, capacity: 8 }, 0.5, 0.0);
     for call in [Call::H(0), Call::Cnot(0, 1), Call::S(1), Call::H(2), Call::Cnot(2, 1), Call::S(2), Call::H(1)] {
-        o.call(call);
+        assert_eq!(o.call(call).number, 0, "{call:?}");
     }
     let len = entry_len(o.header.size);
     for place in 1..8 {
