@@ -9,7 +9,7 @@
  *   disk_full         the second write to a descriptor above 2 fails with ENOSPC
  *   copy_cut          the copy is cut to 10 bytes before it is read at an offset
  *   pread_error       a pread fails with EIO
- *   close_error       closing standard output fails with EIO
+ *   close_error       closing standard output fails with EIO, and so does an fsync before that
  *   unlink_error      taking the copy's name away fails with EACCES
  */
 #define _GNU_SOURCE
@@ -98,6 +98,16 @@ int close(int fd)
     if (real == NULL)
         *(void **)&real = dlsym(RTLD_NEXT, "close");
     if (is("close_error") && fd == 1)
+        return fails(EIO);
+    return real(fd);
+}
+
+int fsync(int fd)
+{
+    static int (*real)(int);
+    if (real == NULL)
+        *(void **)&real = dlsym(RTLD_NEXT, "fsync");
+    if (is("close_error"))
         return fails(EIO);
     return real(fd);
 }

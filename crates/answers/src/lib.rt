@@ -1,4 +1,6 @@
 // Headers and answers, each built in one place.
+#![tactic(auto)]
+
 ghost use Rattle.std.specs.Prelude.{◌≡◌};
 ghost use Rattle.model.specs.Store.{no_loss};
 ghost use Rattle.model.specs.Calls.{header_of, header_with, answer_of, no_counts, plain_answer, zero_header};

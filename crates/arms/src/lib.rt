@@ -1,4 +1,6 @@
 // The branches that a noise makes of an entry: their rates and what each changes (document 01, point 5), and number 4.
+#![tactic(auto)]
+
 ghost use Rattle.std.specs.Prelude.{◌≡◌, ◌&&◌, ◌+◌, ◌<◌, ◌≤◌, ◌/◌, ◌%◌, length, get_or};
 ghost use Rattle.model.specs.Floats.{up_to, float, one_bits};
 ghost use Rattle.model.specs.Channels as Channels;
@@ -9,7 +11,7 @@ ghost use Rattle.arms.specs.Arms as Spec;
 use model::{BranchMutation, Channel, Pauli};
 
 // On which qubits, and by what: Paulis at one qubit, its loss, pairs of Paulis at two.
-#[derive(Drop)]
+#[derive(Clone, Copy)]
 pub enum Shape {
     One(usize),
     Lose(usize),
@@ -17,7 +19,7 @@ pub enum Shape {
 }
 
 // The branches: `count` of them, each with its rate.
-#[derive(Drop)]
+#[derive(Clone, Copy)]
 pub struct Arms {
     pub rates: [f64; 15],
     pub count: usize,

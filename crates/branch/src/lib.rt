@@ -1,4 +1,6 @@
 // A branch's words, made from its parent's: document 01, points 3, 5 and 6.
+#![tactic(auto)]
+
 ghost use Rattle.std.specs.Prelude.{◌≡◌, ◌+◌, ◌*◌, ◌^◌, ◌≤◌, ◌<◌, length, drop};
 ghost use Rattle.model.specs.Lists.{all_below};
 ghost use Rattle.model.specs.Entries.{entry_len, map_rows, entry_of, words_of, stretch, with_stretch};

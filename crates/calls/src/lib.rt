@@ -1,5 +1,7 @@
 // The engine's call for an instruction of a circuit (`make`), what is lost of the initial weight after it (loss.rt), and, if it was refused
 // for want of room, how far it outgrew that room (outgrown.rt).
+#![tactic(auto)]
+
 mod loss;
 mod outgrown;
 
@@ -15,7 +17,7 @@ use model::{Answer, Gate, Header};
 pub use outgrown::{Outgrown, outgrown_by};
 
 // What an instruction does, with its rates, on a qubit p, or on the qubits p and q.
-#[derive(Drop)]
+#[derive(Clone, Copy)]
 pub struct Operation {
     pub act: Act,
     pub rates: [f64; 15],

@@ -11,7 +11,7 @@ use model::{Answer, Header, Size};
 
 // The entries that the call would list before it truncates, and whether they are these exactly or at most these; a cutoff with which it
 // is accepted. 0 where there is no such number.
-#[derive(Drop)]
+#[derive(Clone, Copy)]
 pub struct Outgrown {
     pub entries: usize,
     pub exact: bool,
@@ -19,7 +19,7 @@ pub struct Outgrown {
 }
 
 // Its first two fields.
-#[derive(Drop)]
+#[derive(Clone, Copy)]
 struct Asked {
     entries: usize,
     exact: bool,

@@ -1,5 +1,7 @@
 // What a branch changes of its parent (document 01, points 3, 5 and 6): its phase-loss key, and the rows that it flips. Rows are words
 // (x, z, phase), 2n of them.
+#![tactic(auto)]
+
 ghost use Rattle.std.specs.Prelude.{◌≡◌, true, ◌+◌, ◌*◌, ◌^◌, ◌≤◌, ◌<◌, length};
 ghost use Rattle.std.specs.Int.Bits.{bit_xor};
 ghost use Rattle.model.specs.Keys.{usual_salts, if_set, x_bit, z_bit};
@@ -13,7 +15,7 @@ use model::Salts;
 
 // What a branch changes of its parent: the phase-loss key by `delta`, and phase bit 1 of the rows whose bits are set, the first 64 of them in
 // `low` and the rest in `high`.
-#[derive(Drop)]
+#[derive(Clone, Copy)]
 pub struct Change {
     pub delta: u64,
     pub low: u64,
@@ -93,7 +95,7 @@ fn times_bit(b: u64, m: u64) -> u64
 }
 
 // Of some rows, those with x set at a qubit, and those with z: the XOR of their sign masks, and as bits.
-#[derive(Drop)]
+#[derive(Clone, Copy)]
 pub struct Walked {
     pub x: u64,
     pub z: u64,

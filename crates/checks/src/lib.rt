@@ -1,4 +1,6 @@
 // The tests in front of every call: sizes, header, and every word of the store behind numbers 1, 2 and 5.
+#![tactic(auto)]
+
 ghost use Rattle.std.specs.Prelude.{◌≡◌, true, [], ◌∷◌, map, ◌+◌, ◌*◌, ◌^◌, ◌<◌, ◌≤◌, length};
 ghost use Rattle.model.specs.Floats.{float, finite, finite_from_zero};
 ghost use Rattle.model.specs.Entries.{entry_len, entry_of, strip, listed};

@@ -6,7 +6,7 @@ use crate::runs::Run;
 use crate::{Fault, Verdict, numbers, runs};
 
 // One argument, from where to where it stands; `more`: another one follows.
-#[derive(Drop)]
+#[derive(Clone, Copy)]
 pub struct Argument {
     pub verdict: Verdict,
     pub value: f64,
@@ -16,7 +16,7 @@ pub struct Argument {
 }
 
 // All of them: how many there are, 16 for more than 15; from where to where they stand, or the word at fault.
-#[derive(Drop)]
+#[derive(Clone, Copy)]
 pub struct Arguments {
     pub verdict: Verdict,
     pub rates: [f64; 15],

@@ -1,6 +1,8 @@
 // One line of a circuit, in a subset of Stim's circuit language, without its line end:
 //     NAME[tag](arguments) targets      REPEAT n {      }      or nothing
 // and then, if at all, a comment from `#` on. Any bytes may be given. No call has a precondition.
+#![tactic(auto)]
+
 mod arguments;
 mod lines;
 mod names;
@@ -59,7 +61,7 @@ fn alone(line: &[u8], item: Item, from: usize, at: usize) -> Line
 // ---- tags
 
 // A tag, if one stands there: where it ends; `sound`: it is closed.
-#[derive(Drop)]
+#[derive(Clone, Copy)]
 struct Tag {
     sound: bool,
     end: usize,

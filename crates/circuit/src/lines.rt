@@ -2,7 +2,7 @@
 use model::Channel;
 
 // What an instruction calls on each of its targets, or on each pair of them.
-#[derive(Drop)]
+#[derive(Clone, Copy)]
 pub enum Act {
     H,
     S,
@@ -15,7 +15,7 @@ pub enum Act {
 }
 
 // What stands at the front of a line.
-#[derive(Drop)]
+#[derive(Clone, Copy)]
 pub enum Name {
     H,
     S,
@@ -35,7 +35,7 @@ pub enum Name {
 }
 
 // What is wrong.
-#[derive(Drop)]
+#[derive(Clone, Copy)]
 pub enum Fault {
     // No instruction of the language.
     Name,
@@ -70,7 +70,7 @@ pub enum Fault {
 }
 
 // What a line asks for.
-#[derive(Drop)]
+#[derive(Clone, Copy)]
 pub enum Item {
     // A blank line, a comment, TICK.
     Nothing,
@@ -81,7 +81,7 @@ pub enum Item {
 }
 
 // A line: what it asks for; from where to where its instruction stands, or the word at fault; where the targets begin; its arguments.
-#[derive(Drop)]
+#[derive(Clone, Copy)]
 pub struct Line {
     pub item: Item,
     pub from: usize,
@@ -91,7 +91,7 @@ pub struct Line {
 }
 
 // What the next call is on.
-#[derive(Drop)]
+#[derive(Clone, Copy)]
 pub enum Seen {
     // No target is left.
     End,
@@ -101,7 +101,7 @@ pub enum Seen {
 }
 
 // .. and from where to where it stands.
-#[derive(Drop)]
+#[derive(Clone, Copy)]
 pub struct Target {
     pub seen: Seen,
     pub from: usize,
@@ -109,14 +109,14 @@ pub struct Target {
 }
 
 // Whether something is sound.
-#[derive(Drop)]
+#[derive(Clone, Copy)]
 pub enum Verdict {
     Sound,
     Bad(Fault),
 }
 
 // All targets of a line: how many qubits they need, one more than the highest, 0 if there are none; or the first word at fault.
-#[derive(Drop)]
+#[derive(Clone, Copy)]
 pub struct Reach {
     pub verdict: Verdict,
     pub qubits: usize,

@@ -5,7 +5,7 @@ ghost use Rattle.circuit.specs.Numbers.{verdict_of, number_at, whole_of, count_a
 use crate::{Fault, Verdict};
 
 // A decimal number, and where it ends.
-#[derive(Drop)]
+#[derive(Clone, Copy)]
 pub struct Number {
     pub verdict: Verdict,
     pub value: f64,
@@ -13,7 +13,7 @@ pub struct Number {
 }
 
 // A whole number.
-#[derive(Drop)]
+#[derive(Clone, Copy)]
 pub enum Whole {
     Is(u64),
     // 2^64 or more.
@@ -23,7 +23,7 @@ pub enum Whole {
 }
 
 // .. and where it ends.
-#[derive(Drop)]
+#[derive(Clone, Copy)]
 pub struct Count {
     pub whole: Whole,
     pub end: usize,

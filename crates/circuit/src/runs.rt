@@ -3,7 +3,7 @@ ghost use Rattle.std.specs.Prelude.{◌≡◌, ◌≤◌, length};
 ghost use Rattle.circuit.specs.Runs.{is_blank, ends_word, is_between, is_of_name, is_of_argument, is_of, run_end, is_end, is_word_end, is_at};
 
 // What a run is of.
-#[derive(Drop)]
+#[derive(Clone, Copy)]
 pub enum Run {
     // Spaces, tabs, carriage returns.
     Blanks,

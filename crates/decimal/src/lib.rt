@@ -1,4 +1,6 @@
 // Numbers in base 10, read from bytes: decimals, rounded once, to the nearest f64, and whole numbers.
+#![tactic(auto)]
+
 pub mod answer;
 
 ghost use Rattle.std.specs.Prelude.{◌≡◌, false, ◌^◌, ◌<◌, length};
@@ -14,7 +16,7 @@ ghost use Rattle.decimal.specs.Bounds.{run_at, capped_significand, capped_expone
 pub use answer::{Decimal, Whole};
 
 // The digits at a place, and the number that they write after those of a number before them: at most 2^64 - 1, and `large` if it is more.
-#[derive(Drop)]
+#[derive(Clone, Copy)]
 struct Run {
     value: u64,
     large: bool,
@@ -22,7 +24,7 @@ struct Run {
 }
 
 // The digits before an exponent: the number that they write, how many there are, how many of them stand after the point, where they end.
-#[derive(Drop)]
+#[derive(Clone, Copy)]
 struct Significand {
     value: u64,
     digits: usize,
@@ -31,7 +33,7 @@ struct Significand {
 }
 
 // An exponent: its sign, its size, where it ends.
-#[derive(Drop)]
+#[derive(Clone, Copy)]
 struct Exponent {
     negative: bool,
     size: u64,

@@ -1,4 +1,6 @@
 // The entries in a store: where they stand; which of their qubits are live; one moved, two exchanged, slots emptied.
+#![tactic(auto)]
+
 ghost use Rattle.std.specs.Prelude.{◌≡◌, [], ◌∷◌, ◌+◌, ◌*◌, ◌<◌, ◌≤◌, length, take, get_or, set};
 ghost use Rattle.model.specs.Entries.{rows_len, entry_len, entry_of, stretch, listed, body_in};
 ghost use Rattle.model.specs.Keys.{all_live};

@@ -1,10 +1,13 @@
 // The table of tried cutoffs: a row for each step, a column for each cutoff, with the entries after the step or, from the step on that was
 // refused, `!` and the number; and then a line for each trial that ended early or lost everything. Each of these answers whether it was written.
+#![tactic(auto)]
+
 ghost use Rattle.std.specs.Prelude.{◌<◌};
 
-use libc::STDOUT_FILENO;
 use options::Cutoffs;
+use std::env::Env;
 use step_pass::Step;
+use streams::STDOUT_FILENO;
 
 const WIDTH: usize = 14;
 
@@ -25,7 +28,7 @@ fn place_of(cutoff: usize, step: usize, count: usize) -> usize
 }
 
 // The number that the step was given, 0 if it was accepted, and the entries after it.
-#[derive(Drop)]
+#[derive(Clone, Copy)]
 struct Shown {
     number: u64,
     entries: u64,
@@ -216,9 +219,15 @@ fn write_ends(list: &[u8], c: Cutoffs, steps: [Step; 64], count: usize, out: &[u
 // ---- all of it
 
 // The list of cutoffs is taken from the arguments again, as it was given.
-pub fn write(steps: [Step; 64], count: usize, c: Cutoffs, out: &[u64; 1024]) -> bool {
+pub fn write(
+    rt: &impl Env,
+    steps: [Step; 64],
+    count: usize,
+    c: Cutoffs,
+    out: &[u64; 1024],
+) -> bool {
     let mut list = io::buffer();
-    let n = options::value_of(options::place_of(b"--try-cutoffs"), &mut list);
+    let n = options::value_of(rt, options::place_of(rt, b"--try-cutoffs"), &mut list);
     write_head(&list[..n], c)
         && write_rows(steps, count, c.count, out)
         && write_ends(&list[..n], c, steps, count, out)

@@ -1,11 +1,13 @@
 // The fields and lines of a sheet, read: document 01, "The sheet".
+#![tactic(auto)]
+
 ghost use Rattle.std.specs.Prelude.{◌≡◌, true, false, ℕ, ◌+◌, ◌-◌, ◌*◌, ◌≤◌, ◌<◌, ◌^◌, length, take, drop};
 ghost use Rattle.std.proofs.Math.Option.{some};
 ghost use Rattle.model.specs.Sheet.{columns, digit, field, same_words, value_from, field_value, line_len, line_fields, lines_fields};
 ghost use Rattle.fields.specs.Read.{as_option, is_some, column};
 
 // What 21 columns are read as. `sound`: they are the field of a number below 2^64, which is then `value`.
-#[derive(Drop)]
+#[derive(Clone, Copy)]
 pub struct Field {
     pub sound: bool,
     pub value: u64,

@@ -1,11 +1,13 @@
 // The first pass: every line is parsed, its rates are judged, blocks are matched, and the qubits counted. It stands still at each line that
 // is bad, and can go on from there.
+#![tactic(auto)]
+
 use circuit::{Act, Fault, Item, Line, Verdict};
 use input::{Found, Source};
 use passes::{Outcome, Pass};
 
 // The pass, and how many qubits the lines so far need.
-#[derive(Drop)]
+#[derive(Clone, Copy)]
 pub struct Checked {
     pub pass: Pass,
     pub qubits: usize,
@@ -146,7 +148,7 @@ fn check_end(begun: &[u64; 64], pass: Pass) -> Pass {
 }
 
 fn check_line(
-    s: Source,
+    s: &Source,
     bytes: &mut [u8],
     begun: &mut [u64; 64],
     c: Checked,
@@ -170,7 +172,7 @@ fn check_line(
 // The lines up to the next bad one, or to the circuit's end. A proved loop has to end, and nothing says that a file does: the turns are
 // counted down from a number that no run uses up.
 pub fn check(
-    s: Source,
+    s: &Source,
     bytes: &mut [u8],
     begun: &mut [u64; 64],
     so_far: Checked,

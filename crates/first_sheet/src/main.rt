@@ -1,6 +1,8 @@
 // The fresh sum for n 1, K 1, capacity 2, threshold 0.5, cutoff 0, printed as a sheet.
-use libc::STDOUT_FILENO;
+#![tactic(auto)]
+
 use model::Size;
+use streams::STDOUT_FILENO;
 
 // The first `length` bytes.
 fn print_first(text: &[u8], length: usize) {

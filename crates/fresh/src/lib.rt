@@ -1,4 +1,6 @@
 // The fresh entry, and the call that begins a sum with it: document 01, "Store words".
+#![tactic(auto)]
+
 ghost use Rattle.std.specs.Prelude.{◌≡◌, ◌*◌, ◌<◌, ◌≤◌, length};
 ghost use Rattle.model.specs.Entries.{entry_len, rows_below, words_of};
 ghost use Rattle.model.specs.Keys.{usual_salts, keyed};

@@ -1,5 +1,7 @@
 // Gates, after Aaronson and Gottesman: document 01, point 8, and document 02, request 5. A gate turns every row of every entry that has not
 // lost one of its qubits; keys stay as they are, and are stale.
+#![tactic(auto)]
+
 mod call;
 
 ghost use Rattle.std.specs.Prelude.{◌≡◌, ◌||◌, map, ◌*◌, ◌^◌, ◌<◌, ◌≤◌, length};

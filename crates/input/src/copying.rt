@@ -1,64 +1,86 @@
 // A circuit is copied before it is looked at, to a file without a name: what is run is then what was looked at, whatever becomes of the file,
 // and a pipe can be read twice. It is run only if all of it was copied.
-ghost use Rattle.std.specs.Prelude.{◌≤◌, length};
+ghost use Rattle.std.specs.Prelude.{◌≤◌, length, IfOk};
 
-// The copy: its descriptor and how many bytes it has. `ok`: it was made; else it was said why not.
+use std::fs;
+use std::fs::{File, OpenOptions};
+use std::io::{Error, ErrorKind, Read, Result, Seek, SeekFrom, Write};
+use std::os::unix::fs::OpenOptionsExt;
+use std::random::RandomSource;
+use std::rt::HostRuntime;
+
+// What a circuit is taken from.
 #[derive(Drop)]
-pub struct Source {
-    pub ok: bool,
-    pub fd: i32,
-    pub size: u64,
+pub enum Given {
+    Input,
+    Named(File),
 }
 
-fn none() -> Source {
-    Source {
-        ok: false,
-        fd: -1,
-        size: 0,
-    }
+// The copy, and how many bytes it has.
+#[derive(Drop)]
+pub struct Source {
+    pub file: File,
+    pub size: u64,
 }
 
 // ---- bytes copied
 
 // What became of some bytes.
-#[derive(Drop)]
+#[derive(Clone, Copy)]
 enum Step {
     Copied(u64),
     // There are no more.
     End,
-    Unread,
-    Unwritten,
+    Unread(Error),
+    Unwritten(Error),
 }
 
 // How many bytes were copied, and how that ended.
-#[derive(Drop)]
+#[derive(Clone, Copy)]
 struct Ended {
     size: u64,
     step: Step,
 }
 
+// Bytes once read; how many there were.
+fn read_some(rt: &HostRuntime, from: &mut Given, bytes: &mut [u8]) -> Result<usize>
+    ensures { IfOk result (λ n. n ≤ length bytes.old) }
+{
+    match from {
+        Given::Input => {
+            let mut input = rt.stdin();
+            input.read(bytes)
+        }
+        Given::Named(file) => file.read(bytes),
+    }
+}
+
+fn written(to: &mut File, bytes: &[u8]) -> Step {
+    match to.write_all(bytes) {
+        Ok(()) => Step::Copied(bytes.len() as u64),
+        Err(e) => Step::Unwritten(e),
+    }
+}
+
 // Bytes once read and written.
-fn copy_some(from: i32, to: i32, bytes: &mut [u8]) -> Step {
-    let got = libc::read(from, bytes);
-    if got < 0 {
-        return Step::Unread;
+fn copy_some(rt: &HostRuntime, from: &mut Given, to: &mut File, bytes: &mut [u8]) -> Step {
+    match read_some(rt, from, bytes) {
+        Ok(n) => {
+            if n == 0 {
+                return Step::End;
+            }
+            written(to, &bytes[..n])
+        }
+        Err(e) => Step::Unread(e),
     }
-    if got == 0 {
-        return Step::End;
-    }
-    let n = io::count(got, bytes);
-    if io::write_all(to, &bytes[..n]) {
-        return Step::Copied(n as u64);
-    }
-    Step::Unwritten
 }
 
 // All that there are.
-fn copy_all(from: i32, to: i32, bytes: &mut [u8]) -> Ended {
+fn copy_all(rt: &HostRuntime, from: &mut Given, to: &mut File, bytes: &mut [u8]) -> Ended {
     let mut size: u64 = 0;
     let mut turns = u64::MAX;
     while turns > 0 {
-        let step = copy_some(from, to, bytes);
+        let step = copy_some(rt, from, to, bytes);
         let Step::Copied(n) = step else {
             return Ended { size, step };
         };
@@ -67,28 +89,85 @@ fn copy_all(from: i32, to: i32, bytes: &mut [u8]) -> Ended {
     }
     Ended {
         size,
-        step: Step::Unread,
+        step: Step::Unread(Error::from(ErrorKind::TimedOut)),
     }
 }
 
 // ---- what a file should give
 
 // Of a file with offsets, the one that is read next and the one where it ends; a pipe has none.
-#[derive(Drop)]
+#[derive(Clone, Copy)]
 struct Extent {
     sought: bool,
-    at: i64,
-    end: i64,
+    at: u64,
+    end: u64,
 }
 
-fn extent_of(fd: i32) -> Extent {
-    let at = libc::lseek(fd, 0, libc::SEEK_CUR);
-    let end = libc::lseek(fd, 0, libc::SEEK_END);
-    let back = libc::lseek(fd, at, libc::SEEK_SET);
+fn no_extent() -> Extent {
     Extent {
-        sought: 0 <= at && 0 <= end && 0 <= back,
+        sought: false,
+        at: 0,
+        end: 0,
+    }
+}
+
+// .. of an open file. It is read on from where it was.
+fn sought(file: &mut File) -> Result<Extent> {
+    let at = file.seek(SeekFrom::Current(0))?;
+    let end = file.seek(SeekFrom::End(0))?;
+    file.seek(SeekFrom::Start(at))?;
+    Ok(Extent {
+        sought: true,
         at,
         end,
+    })
+}
+
+// The number that follows `pos:` and a tab in the first of these lines, which say how a descriptor stands.
+fn place_in(text: &[u8]) -> u64 {
+    let mut place: u64 = 0;
+    let mut i: usize = 5;
+    while i < text.len() {
+        let b = text[i];
+        if b < b'0' {
+            return place;
+        }
+        if b'9' < b {
+            return place;
+        }
+        place = place.wrapping_mul(10).wrapping_add((b - b'0') as u64);
+        i += 1;
+    }
+    place
+}
+
+// Standard input cannot be sought in: the system says where it stands, and where the file ends that it is.
+fn extent_of_input(rt: &HostRuntime) -> Result<Extent> {
+    let m = fs::metadata(rt, "/proc/self/fd/0")?;
+    if !m.is_file() {
+        return Ok(no_extent());
+    }
+    let mut text = [0u8; 64];
+    let mut file = File::open(rt, "/proc/self/fdinfo/0")?;
+    let n = file.read(&mut text)?;
+    Ok(Extent {
+        sought: true,
+        at: place_in(&text[..n]),
+        end: m.len(),
+    })
+}
+
+fn told_extent(rt: &HostRuntime, from: &mut Given) -> Result<Extent> {
+    match from {
+        Given::Input => extent_of_input(rt),
+        Given::Named(file) => sought(file),
+    }
+}
+
+fn extent_of(rt: &HostRuntime, from: &mut Given) -> Extent {
+    match told_extent(rt, from) {
+        Ok(extent) => extent,
+        Err(_) => no_extent(),
     }
 }
 
@@ -105,54 +184,75 @@ fn is_all(before: Extent, now: Extent) -> bool {
 
 // ---- what is said
 
-fn say_nothing_run(why: &[u8]) -> Source {
+fn say_nothing_run(why: &[u8]) {
     printing::say(b"run_circuit: ");
     printing::say(why);
     printing::say(b"; nothing was run\n");
-    none()
 }
 
-// The copy could not be made at a path: errno says why.
-fn say_no_copy(path: &[u8]) -> Source {
-    os::fail(path);
+// The copy could not be made at a path.
+fn say_no_copy(path: &[u8], e: Error) {
+    printing::say_why(path, e);
     say_nothing_run(
         b"the circuit could not be copied there before it is run (--tmpdir, or TMPDIR, names another folder)",
-    )
+    );
 }
 
-fn say_unread(name: &[u8]) -> Source {
-    os::fail(name);
-    say_nothing_run(b"the circuit could not be read whole")
+fn say_unread(name: &[u8], e: Error) {
+    printing::say_why(name, e);
+    say_nothing_run(b"the circuit could not be read whole");
 }
 
-fn say_changed(name: &[u8]) -> Source {
+fn say_changed(name: &[u8]) {
     printing::say(name);
     printing::say(b": the file changed while it was read\n");
-    say_nothing_run(b"the circuit could not be read whole")
+    say_nothing_run(b"the circuit could not be read whole");
 }
 
 // ---- the copy
 
-// What the file `from`, of this name, gives is copied to `to`, in this folder.
-fn copied(from: i32, to: i32, name: &[u8], folder: &[u8], bytes: &mut [u8]) -> Source {
-    let before = extent_of(from);
-    let c = copy_all(from, to, bytes);
-    let size = c.size;
-    let step = c.step;
+// Whether what was given is copied whole, with this name, to a file in this folder; else it is said why not.
+fn is_copied(
+    rt: &HostRuntime,
+    from: &mut Given,
+    before: Extent,
+    step: Step,
+    name: &[u8],
+    folder: &[u8],
+) -> bool {
     match step {
         Step::End => {
-            if is_all(before, extent_of(from)) {
-                return Source {
-                    ok: true,
-                    fd: to,
-                    size,
-                };
+            if is_all(before, extent_of(rt, from)) {
+                return true;
             }
-            say_changed(name)
+            say_changed(name);
         }
-        Step::Unwritten => say_no_copy(folder),
-        _ => say_unread(name),
+        Step::Unwritten(e) => say_no_copy(folder, e),
+        Step::Unread(e) => say_unread(name, e),
+        Step::Copied(_) => say_changed(name),
     }
+    false
+}
+
+// What is given under this name is copied to a file in this folder.
+fn copied(
+    rt: &HostRuntime,
+    given: Given,
+    mut to: File,
+    name: &[u8],
+    folder: &[u8],
+    bytes: &mut [u8],
+) -> Option<Source> {
+    let mut from = given;
+    let before = extent_of(rt, &mut from);
+    let c = copy_all(rt, &mut from, &mut to, bytes);
+    if is_copied(rt, &mut from, before, c.step, name, folder) {
+        return Some(Source {
+            file: to,
+            size: c.size,
+        });
+    }
+    None
 }
 
 // A text at a place of a path; the place after it, or the path's length if there is no room.
@@ -175,39 +275,82 @@ fn put(path: &mut [u8; 4096], at: usize, text: &[u8]) -> usize
     end
 }
 
-// A new file, whose name is taken away again; -1 if it cannot be made. The first three descriptors are open by now, so it has none of their
-// numbers.
-fn nameless(path: &mut [u8]) -> i32 {
-    let fd = os::create_temp(path);
-    if fd < 3 {
-        return -1;
-    }
-    if os::unlink(path) < 0 {
-        return -1;
-    }
-    fd
+// A new file, whose name is taken away again.
+fn nameless(rt: &HostRuntime, path: &[u8]) -> Result<File> {
+    let Ok(name) = str::from_utf8(path) else {
+        return Err(Error::new(
+            ErrorKind::InvalidInput,
+            "the name of a folder is UTF-8 text",
+        ));
+    };
+    let mut how = OpenOptions::new();
+    how.read(true).write(true).create_new(true).mode(0o600);
+    let file = how.open(rt, name)?;
+    fs::remove_file(rt, name)?;
+    Ok(file)
 }
 
-// .. whose path ends at a place, with XXXXXX.
-fn nameless_up_to(path: &mut [u8], end: usize) -> i32 {
+// .. whose path ends at a place.
+fn nameless_up_to(rt: &HostRuntime, path: &[u8], end: usize) -> Result<File> {
     if end <= path.len() {
-        return nameless(&mut path[0..end]);
+        return nameless(rt, &path[0..end]);
     }
-    -1
+    Err(Error::from(ErrorKind::InvalidFilename))
 }
 
-fn nameless_at(path: &mut [u8; 4096], end: usize) -> i32 {
-    nameless_up_to(path, end)
+fn nameless_at(rt: &HostRuntime, path: &[u8; 4096], end: usize) -> Result<File> {
+    nameless_up_to(rt, path, end)
 }
 
-// THE CIRCUIT, TAKEN: a copy of what the descriptor gives, made in a folder.
-pub fn take(from: i32, name: &[u8], folder: &[u8], bytes: &mut [u8]) -> Source {
+// A number for a name that is hardly taken.
+fn drawn(rt: &HostRuntime) -> Result<u64> {
+    let mut bytes = [0u8; 8];
+    rt.fill_bytes(&mut bytes)?;
+    Ok(u64::from_le_bytes(bytes))
+}
+
+// .. in this folder.
+fn nameless_in(rt: &HostRuntime, folder: &[u8]) -> Result<File> {
+    let number = drawn(rt)?;
+    let mut digits = [0u8; 16];
+    let n = io::hex(number, 16, &mut digits);
     let mut path = io::buffer();
     let slash = put(&mut path, 0, folder);
-    let end = put(&mut path, slash, b"/run_circuit.XXXXXX");
-    let to = nameless_at(&mut path, end);
-    if to < 0 {
-        return say_no_copy(folder);
+    let dot = put(&mut path, slash, b"/run_circuit.");
+    let end = put(&mut path, dot, &digits[..n]);
+    nameless_at(rt, &path, end)
+}
+
+// .. with a name that was not taken.
+fn new_file(rt: &HostRuntime, folder: &[u8]) -> Result<File> {
+    let mut turns: usize = 100;
+    while turns > 0 {
+        match nameless_in(rt, folder) {
+            Ok(file) => return Ok(file),
+            Err(e) => {
+                if e.kind() != ErrorKind::AlreadyExists {
+                    return Err(e);
+                }
+            }
+        }
+        turns -= 1;
     }
-    copied(from, to, name, folder, bytes)
+    Err(Error::from(ErrorKind::AlreadyExists))
+}
+
+// THE CIRCUIT, TAKEN: a copy of what is given under a name, made in a folder. None if it could not be made whole: it was said why not.
+pub fn take(
+    rt: &HostRuntime,
+    given: Given,
+    name: &[u8],
+    folder: &[u8],
+    bytes: &mut [u8],
+) -> Option<Source> {
+    match new_file(rt, folder) {
+        Ok(to) => copied(rt, given, to, name, folder, bytes),
+        Err(e) => {
+            say_no_copy(folder, e);
+            None
+        }
+    }
 }

@@ -1,21 +1,25 @@
 // The circuit: a copy of its own, read at offsets. A window of its bytes, and the line that begins at an offset.
+#![tactic(auto)]
+
 mod copying;
 
 ghost use Rattle.std.specs.Prelude.{◌≡◌, ◌≤◌, length};
 ghost use Rattle.input.specs.Marks.{mark_length};
 
-pub use copying::{Source, take};
+pub use copying::{Given, Source, take};
+use std::fs::File;
+use std::os::unix::fs::FileExt;
 
 // ---- lines
 
 // What stands at an offset.
-#[derive(Drop)]
+#[derive(Clone, Copy)]
 pub enum Found {
     Line,
     End,
     // No line end within the window.
     TooLong,
-    // It could not be read: errno says why.
+    // It could not be read: the system's last error says why.
     Failed,
     // Fewer bytes were there than had been copied.
     Cut,
@@ -23,7 +27,7 @@ pub enum Found {
 
 // The window holds `fill` bytes from the offset `base` on. The line that was found stands from `from` to `to` in it, and the next one
 // begins at the offset `next`.
-#[derive(Drop)]
+#[derive(Clone, Copy)]
 pub struct Window {
     pub base: u64,
     pub fill: usize,
@@ -105,7 +109,7 @@ fn held(bytes: &[u8], w: Window) -> Window
         if w.base <= w.next {
             let ahead = (w.next - w.base) as usize;
             if ahead < fill {
-                let to = bytes::scan::find(bytes, ahead, fill, b'\n');
+                let to = scan::find(bytes, ahead, fill, b'\n');
                 if to < fill {
                     return stretch(w.base, fill, ahead, to, Found::Line);
                 }
@@ -117,37 +121,38 @@ fn held(bytes: &[u8], w: Window) -> Window
 
 // ---- the window filled
 
-// An offset as the C library counts it.
-fn signed(offset: u64) -> i64 {
+// An offset as the system counts it.
+fn signed(offset: u64) -> u64 {
     if offset <= 0x7fff_ffff_ffff_ffff {
-        return offset as i64;
+        return offset;
     }
     0x7fff_ffff_ffff_ffff
 }
 
 // How many bytes came; `ok`: no reading failed.
-#[derive(Drop)]
+#[derive(Clone, Copy)]
 struct Filled {
     fill: usize,
     ok: bool,
 }
 
 // Bytes once read, from an offset on.
-fn fill_some(fd: i32, bytes: &mut [u8], offset: u64) -> Filled
+fn fill_some(file: &File, bytes: &mut [u8], offset: u64) -> Filled
     ensures { result.fill ≤ length bytes.old }
 {
-    let got = libc::pread(fd, bytes, signed(offset));
-    let fill = io::count(got, bytes);
-    Filled { fill, ok: 0 <= got }
+    match file.read_at(bytes, signed(offset)) {
+        Ok(fill) => Filled { fill, ok: true },
+        Err(_) => Filled { fill: 0, ok: false },
+    }
 }
 
 // The bytes from an offset on, as many as there are and the window holds.
-fn fill_all(fd: i32, bytes: &mut [u8], offset: u64) -> Filled
+fn fill_all(file: &File, bytes: &mut [u8], offset: u64) -> Filled
     ensures { result.fill ≤ length bytes.old }
 {
     let mut fill = 0;
     while fill < bytes.len() {
-        let f = fill_some(fd, &mut bytes[fill..], plus(offset, fill as u64));
+        let f = fill_some(file, &mut bytes[fill..], plus(offset, fill as u64));
         if !f.ok {
             return Filled { fill, ok: false };
         }
@@ -176,7 +181,7 @@ fn first(bytes: &[u8], base: u64, fill: usize) -> Window
     ensures { (result.from ≤ result.to) × (result.to ≤ length bytes.now) }
 {
     let from = mark_end(bytes, base, fill);
-    let to = bytes::scan::find(bytes, from, fill, b'\n');
+    let to = scan::find(bytes, from, fill, b'\n');
     if to == bytes.len() {
         return stretch(base, fill, from, to, Found::TooLong);
     }
@@ -184,7 +189,7 @@ fn first(bytes: &[u8], base: u64, fill: usize) -> Window
 }
 
 // Whether the window has all bytes that it should have: those up to the end of the circuit, or as many as it holds.
-fn is_whole(s: Source, next: u64, fill: usize, room: usize) -> bool {
+fn is_whole(s: &Source, next: u64, fill: usize, room: usize) -> bool {
     if fill == room {
         return true;
     }
@@ -192,10 +197,10 @@ fn is_whole(s: Source, next: u64, fill: usize, room: usize) -> bool {
 }
 
 // The line at an offset, after the window is filled from there on.
-fn refilled(s: Source, bytes: &mut [u8], next: u64) -> Window
+fn refilled(s: &Source, bytes: &mut [u8], next: u64) -> Window
     ensures { (result.from ≤ result.to) × (result.to ≤ length bytes.new) }
 {
-    let f = fill_all(s.fd, bytes, next);
+    let f = fill_all(&s.file, bytes, next);
     if !f.ok {
         return stretch(next, 0, 0, 0, Found::Failed);
     }
@@ -206,7 +211,7 @@ fn refilled(s: Source, bytes: &mut [u8], next: u64) -> Window
 }
 
 // THE NEXT LINE.
-pub fn next_line(s: Source, bytes: &mut [u8], w: Window) -> Window
+pub fn next_line(s: &Source, bytes: &mut [u8], w: Window) -> Window
     ensures { (result.from ≤ result.to) × (result.to ≤ length bytes.new) }
 {
     if s.size <= w.next {

@@ -1,4 +1,6 @@
 // Masks and keys (document 01, point 1). Rows are words (x, z, phase), 2n of them.
+#![tactic(auto)]
+
 ghost use Rattle.std.specs.Prelude.{◌≡◌, ◌+◌, ◌*◌, ◌≤◌, length, bit_xor};
 ghost use Rattle.model.specs.Entries.{x_at, z_at, phase_at};
 ghost use Rattle.model.specs.Keys.{usual_salts, mix, row_mask, bit, if_set, mask_xor, phase_mask, phase_part, phase_loss_key, absorb, word_key};
@@ -94,7 +96,7 @@ pub fn word_key(rows: &[u64], n: usize) -> u64
 }
 
 // The word keys of four entries.
-#[derive(Drop)]
+#[derive(Clone, Copy)]
 pub struct FourKeys {
     pub a: u64,
     pub b: u64,

@@ -1,5 +1,7 @@
 // Document 01, point 2: when a coefficient of one entry is near the other's value at its index. Document 02, request 3: how that value is
 // looked up.
+#![tactic(auto)]
+
 ghost use Rattle.std.specs.Prelude.{◌≡◌, true, ◌+◌, ◌*◌, ◌-◌, ◌≤◌, ◌<◌, length};
 ghost use Rattle.model.specs.Floats.{float, finite};
 ghost use Rattle.model.specs.Entries.{re_at, im_at};
@@ -12,7 +14,7 @@ ghost use Rattle.likeness.specs.Near.{NearAs, NearBelow};
 // ---- the value at an index
 
 // What a lookup returns: the value, and how many coefficients it read for that.
-#[derive(Drop)]
+#[derive(Clone, Copy)]
 pub struct Lookup {
     pub re: f64,
     pub im: f64,
@@ -20,7 +22,7 @@ pub struct Lookup {
 }
 
 // Where a walk stands: how many coefficients it has read, and whether the last of these is a hit.
-#[derive(Drop)]
+#[derive(Clone, Copy)]
 pub struct Walked {
     pub read: usize,
     pub hit: bool,

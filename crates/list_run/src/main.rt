@@ -2,9 +2,11 @@
 // wrote (runs::run_sheet). For each run a line of its number, how many calls were made, the header's count and flag, and the digest of the
 // store without keys; then a line for each call: its kind, the record's numbers, the digest of its record, a view's without keys, and that
 // of its stretch of text. differential/list_run.py makes the list, and works out what is to come out from entries that have no keys.
-use libc::STDIN_FILENO;
+#![tactic(auto)]
+
 use model::Size;
 use runs::{Ran, Room};
+use streams::STDIN_FILENO;
 use test_support::{
     CALL_WORDS, LIST_WORDS, LOG_WORDS, MOST_CALLS, NUMBER_WORDS, RECORD_WORDS, SHOWN_WORDS,
 };

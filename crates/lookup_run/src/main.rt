@@ -1,7 +1,9 @@
 // Values looked up among coefficients, in cases from standard input (likeness::value_at). Of each case a line: its place, the bits of the
 // value's two parts, and how many coefficients were read. differential/lookup_run.py has the cases, and makes both the input and what is
 // to come out.
-use libc::STDIN_FILENO;
+#![tactic(auto)]
+
+use streams::STDIN_FILENO;
 
 // A case is given as an item: how many coefficients are counted, the index that is looked up, K, and K coefficients of three words.
 const ITEM_WORDS: usize = 4 + 3 * model::MAX_COEFFICIENTS;

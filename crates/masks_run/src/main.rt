@@ -1,6 +1,8 @@
 // Masks and keys, printed: row_mask(k, 0) for k 1 to 5, which are the published outputs of SplitMix64 for seed 0; then the sign, imag
 // and loss masks of rows and qubits 0, 1 and 127; then word key, phase-loss key and full key of some rows.
-use libc::STDOUT_FILENO;
+#![tactic(auto)]
+
+use streams::STDOUT_FILENO;
 
 fn line(v: u64) {
     io::print_hex(STDOUT_FILENO, v, 16);

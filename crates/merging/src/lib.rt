@@ -1,4 +1,6 @@
 // Branches merged into the entries listed, one after the other: document 01, point 3.
+#![tactic(auto)]
+
 ghost use Rattle.std.specs.Prelude.{◌≡◌, [], ◌∷◌, ◌+◌, ◌*◌, ◌≤◌, ◌<◌, length};
 ghost use Rattle.model.specs.Entries.{entry_len, entry_of, stretch, listed};
 ghost use Rattle.model.specs.Keys.{usual_salts, stored_key};
@@ -16,7 +18,7 @@ use model::{Answer, Counts, Found, Header, Lost, Size};
 use seeking::{Search, Sought};
 
 // What every merge of one call shares: n, K and capacity, and the two floats of the header.
-#[derive(Drop)]
+#[derive(Clone, Copy)]
 pub struct Limits {
     pub size: Size,
     pub threshold: f64,
@@ -24,7 +26,7 @@ pub struct Limits {
 }
 
 // A branch that is not made yet: branch `arm` of the entry at place `parent`, and what it changes.
-#[derive(Drop)]
+#[derive(Clone, Copy)]
 pub struct Branch {
     pub parent: usize,
     pub shape: Shape,
@@ -34,7 +36,7 @@ pub struct Branch {
 }
 
 // What becomes of a branch. NoRoom: it is above the cutoff and every slot is taken, so nothing is changed.
-#[derive(Drop)]
+#[derive(Clone, Copy)]
 pub enum Fate {
     Merged,
     Stored,
@@ -43,7 +45,7 @@ pub enum Fate {
 }
 
 // The branch's fate, and how many full comparisons its search made.
-#[derive(Drop)]
+#[derive(Clone, Copy)]
 pub struct Settled {
     pub fate: Fate,
     pub compared: usize,
@@ -51,7 +53,7 @@ pub struct Settled {
 
 // How far merging has come: the entries listed, what became of the branches, the weight of those that were dropped, added in order from 0,
 // and whether one found no room.
-#[derive(Drop)]
+#[derive(Clone, Copy)]
 pub struct Progress {
     pub count: usize,
     pub merged: usize,

@@ -1,4 +1,6 @@
 // What is said of a pass that ended before the circuit's end: where, which word is at fault, what was expected, and what to do.
+#![tactic(auto)]
+
 mod refused;
 mod stim;
 
@@ -147,12 +149,12 @@ fn tell_line(name: &[u8], bytes: &[u8], pass: Pass) {
 pub fn tell(name: &[u8], bytes: &[u8], pass: Pass) {
     let outcome = pass.outcome;
     match outcome {
-        Outcome::Failed => os::fail(name),
+        Outcome::Failed => printing::say_failed(name),
         Outcome::Cut => {
             printing::say(name);
             printing::say(b": the circuit's copy was cut while it was read\n")
         }
-        Outcome::Unwritten => os::fail(b"run_circuit: standard output"),
+        Outcome::Unwritten => printing::say_failed(b"run_circuit: standard output"),
         Outcome::Unclosed(line) => {
             tell_place(name, line);
             printing::say(b"`REPEAT`: this block has no `}`\n")

@@ -1,10 +1,10 @@
 // What is said of a call that was refused, or that lost too much.
 use calls::{Operation, Outgrown};
 use circuit::Item;
-use libc::STDERR_FILENO;
 use model::Header;
 use passes::{Outcome, Pass};
 use second_pass::{Repetition, Run, STACK_WORDS};
+use streams::STDERR_FILENO;
 
 // What a number means, in document 01's words, to a descriptor. Whether it was written.
 pub fn write_number(fd: i32, number: u64) -> bool {

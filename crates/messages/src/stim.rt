@@ -10,7 +10,7 @@ DEPOLARIZE1 DEPOLARIZE2 I_ERROR[loss] I[reset_loss] TICK REPEAT)",
 fn is_among(word: &[u8], names: &[u8]) -> bool {
     let mut at: usize = 0;
     while at < names.len() {
-        let end = bytes::scan::find(names, at, names.len(), b' ');
+        let end = scan::find(names, at, names.len(), b' ');
         if circuit::is_named(word, &names[at..end]) {
             return true;
         }
@@ -24,7 +24,7 @@ fn is_among(word: &[u8], names: &[u8]) -> bool {
 
 // A line of a table has names, `:` and what is said of them. Whether it was said of this word.
 fn say_by_line(line: &[u8], word: &[u8]) -> bool {
-    let colon = bytes::scan::find(line, 0, line.len(), b':');
+    let colon = scan::find(line, 0, line.len(), b':');
     if colon < line.len() {
         if is_among(word, &line[0..colon]) {
             let text = colon + 1;
@@ -39,7 +39,7 @@ fn say_by_line(line: &[u8], word: &[u8]) -> bool {
 fn say_by_table(table: &[u8], word: &[u8]) -> bool {
     let mut at: usize = 0;
     while at < table.len() {
-        let end = bytes::scan::find(table, at, table.len(), b'\n');
+        let end = scan::find(table, at, table.len(), b'\n');
         if say_by_line(&table[at..end], word) {
             return true;
         }

@@ -11,10 +11,10 @@ use lib.ListN.{length, length-map}
 use borrow.Author.Tests.{le-leb, eqb-true, eqb-false, not-false}
 use Rattle.model.specs.Entries.{Body, Entry, Keyed, strip, entry_len, listed, pack}
 use Rattle.model.specs.Keys.{usual_salts}
-use Rattle.model.specs.Sum.{Result, done, refused}
+use Rattle.model.specs.Sum.{Result, done}
 use Rattle.model.specs.Sheet.{Sheet}
-use Rattle.model.specs.Numbers.{Test, first_of, size_sound, bounds_sound, header_sound, body_sound, weights_sound, bodies_sound, entries_sound}
-use Rattle.model.specs.Calls.{Call, noise, reset, gate, truncate, normalise, table, pick, sheet, view, page, Sum, with_list, Outcome, argument_tests, act, Lent, held, engine, sum_of, Kind, branching, turning, moving, looking, kind_of, rebuilt, words_after, dirty_after, header_with, plain_answer, accepted, Left, gave, refused_left, left, words_sound, front, worked, acted, step, Start, start_dirty, start_keyed, sheet_header, left_by, start}
+use Rattle.model.specs.Numbers.{first_of, size_sound, bounds_sound, header_sound, body_sound, weights_sound, bodies_sound, entries_sound}
+use Rattle.model.specs.Calls.{Call, noise, reset, gate, truncate, normalise, table, pick, sheet, view, page, Sum, with_list, Outcome, argument_tests, act, Lent, held, engine, sum_of, Kind, branching, turning, moving, looking, kind_of, rebuilt, words_after, dirty_after, header_with, plain_answer, accepted, Left, gave, left, words_sound, front, worked, step, Start, start_dirty, start_keyed, sheet_header, left_by, start}
 use Rattle.model.specs.Demand3.{next, after_calls}
 use Rattle.model.specs.Known.{Checked, Known, known_after, Stepped}
 use Rattle.model.specs.declared.Answer.{Answer}

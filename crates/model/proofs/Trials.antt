@@ -4,7 +4,7 @@ use Prim.Native.Nat.{ℕ, zero, suc, ◌+◌, ◌*◌, ◌-◌, ◌<◌, ◌≤�
 use native.Mathlib.Numerals.{add-one}
 use native.Mathlib.Omega.{arith}
 use mathlib.Core.Path.{◌≡◌, refl, sym, ap, ap₂, subst, ◌∙◌}
-use mathlib.Core.Bool.{Bool, true, false, cond, not, ◌&&◌}
+use mathlib.Core.Bool.{Bool, true, false, cond, ◌&&◌}
 use mathlib.Core.List.{List, [], ◌∷◌, ◌++◌, map}
 use lib.Dec.{eqb, ltb}
 use lib.ListN.{length, drop, get_or, length-drop}
@@ -17,10 +17,10 @@ use Rattle.model.specs.Numbers.{first_of, size_sound, bounds_sound, one_to}
 use Rattle.model.specs.Channels.{one}
 use Rattle.model.specs.Entries.{Entry, Keyed}
 use Rattle.model.specs.Sum.{Result, done, refused, map_result}
-use Rattle.model.specs.Calls.{Call, noise, Sum, Outcome, Lent, held, Left, refused_left, plain_answer, accepted, left, worked, unless, performed, engine, shape, zeros_past, step, Start, fresh, fresh_tests, fresh_sheet, begins, start}
+use Rattle.model.specs.Calls.{Call, noise, Sum, Outcome, Lent, Left, plain_answer, accepted, left, worked, unless, performed, engine, shape, zeros_past, step, Start, fresh_tests, fresh_sheet, begins, start}
 use Rattle.model.specs.Keyless.{keyless_step, keyless_start, sheet_sum}
 use Rattle.model.specs.Demand3.{next, after_calls, keyless_next, keyless_after, keyless_shown, Shown, shown_by, all_shown, all_keyless_shown, all_compared, all_comparisons, flag_by, flag_after, Agree, Begins, Demand3}
-use Rattle.model.specs.Trials.{max_steps, max_cutoffs, step_calls, Plan, fresh_of, trial_begun, accepted_of, place_of, repeated, places_of, trial_tests, trial_number, keyless_place, keyless_places, keyless_accepted, TrialAgrees, keyless_trial, keyless_trials, last_cutoff, trial_places, tried_all, tried_by, tried, TrialsPromise, TrialsAgree}
+use Rattle.model.specs.Trials.{max_steps, max_cutoffs, step_calls, Plan, fresh_of, trial_begun, accepted_of, place_of, repeated, places_of, trial_tests, trial_number, keyless_places, keyless_accepted, TrialAgrees, keyless_trial, keyless_trials, last_cutoff, trial_places, tried_all, tried_by, tried, TrialsAgree}
 use Rattle.model.specs.declared.Channel.{Channel}
 use Rattle.model.proofs.Lists.{and_both, every-at}
 use Rattle.model.proofs.Steps.{unless-none}

@@ -1,5 +1,7 @@
 // The f64 nearest to m × 10^k or m / 10^k, of an m of at most 19 digits: by one operation on floats where m and 10^k are exact as floats,
 // and else by exact arithmetic on numbers of many bytes.
+#![tactic(auto)]
+
 ghost use Rattle.std.specs.Prelude.{◌≡◌, false, cond, eqb, ltb, length};
 ghost use Prim.Native.Nat.{◌^◌, ◌<◌, ◌≤◌, ◌*◌, ◌/◌, compare};
 ghost use Rattle.std.specs.Float.{binary64};

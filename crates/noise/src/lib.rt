@@ -1,4 +1,6 @@
 // Channels: document 01, point 5 (noise.rs).
+#![tactic(auto)]
+
 mod calls;
 
 ghost use Rattle.std.specs.Prelude.{◌≡◌, true, false, ◌<◌, ◌≤◌, length, take};
@@ -23,7 +25,7 @@ use model::{Answer, Header, Size};
 // ---- the end of a channel
 
 // How it ended: its number, the entries listed, and the weight that truncating took.
-#[derive(Drop)]
+#[derive(Clone, Copy)]
 pub struct Ending {
     pub number: u64,
     pub count: usize,

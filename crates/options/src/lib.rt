@@ -1,10 +1,14 @@
 // The arguments of run_circuit.
+#![tactic(auto)]
+
 ghost use Rattle.std.specs.Prelude.{◌+◌, ◌<◌, ◌≤◌, ◌≡◌, length};
 ghost use Rattle.io.specs.Counts.{IsPrefixLen};
 ghost use Rattle.options.specs.Arguments.{count_of, no_count, bound_of, no_bound};
 
+use std::env::{Env, FillError};
+
 // What is printed.
-#[derive(Drop)]
+#[derive(Clone, Copy)]
 pub enum Output {
     Sheet,
     Page,
@@ -13,7 +17,7 @@ pub enum Output {
 }
 
 // What an argument is.
-#[derive(Drop)]
+#[derive(Clone, Copy)]
 enum Kind {
     // A name that a value follows; one that has its value behind `=`.
     Valued,
@@ -82,7 +86,7 @@ fn is_flag(name: &[u8]) -> bool {
 fn name_end(argument: &[u8]) -> usize
     ensures { result ≤ length argument.now }
 {
-    bytes::scan::find(argument, 0, argument.len(), b'=')
+    scan::find(argument, 0, argument.len(), b'=')
 }
 
 fn kind_of(argument: &[u8]) -> Kind {
@@ -108,17 +112,16 @@ fn kind_of(argument: &[u8]) -> Kind {
 }
 
 // Argument i.
-fn kind_at(i: usize) -> Kind {
+fn kind_at(rt: &impl Env, i: usize) -> Kind {
     let mut argument = io::buffer();
-    let n = os::arg(i, &mut argument);
-    if os::errno() != 0 {
-        return Kind::TooLong;
+    match rt.arg(i, &mut argument) {
+        Ok(n) => kind_of(&argument[..n]),
+        Err(_) => Kind::TooLong,
     }
-    kind_of(&argument[..n])
 }
 
-fn is_end(i: usize) -> bool {
-    let kind = kind_at(i);
+fn is_end(rt: &impl Env, i: usize) -> bool {
+    let kind = kind_at(rt, i);
     match kind {
         Kind::End => true,
         _ => false,
@@ -126,32 +129,54 @@ fn is_end(i: usize) -> bool {
 }
 
 // After argument i and its value, if it has one.
-fn after(i: usize) -> usize
+fn after(rt: &impl Env, i: usize) -> usize
     requires { i < 2147483648 }
     ensures { (i < result) × (result ≤ i + 2) }
 {
-    let kind = kind_at(i);
+    let kind = kind_at(rt, i);
     if let Kind::Valued = kind {
         return i + 2;
     }
     i + 1
 }
 
-// The largest number of arguments that are looked at.
-fn arguments() -> usize
+// Whether there is an argument i.
+fn is_there(rt: &impl Env, i: usize) -> bool {
+    let mut argument = io::buffer();
+    match rt.arg(i, &mut argument) {
+        Err(FillError::NotPresent) => false,
+        _ => true,
+    }
+}
+
+// How many arguments are looked at: all that there are, but no more than these.
+fn arguments(rt: &impl Env) -> usize
     ensures { result ≤ 65536 }
 {
-    let n = os::arg_count();
-    if n <= 65536 {
-        return n;
+    let mut n: usize = 0;
+    while n < 65536 {
+        if !is_there(rt, n) {
+            return n;
+        }
+        n += 1;
     }
-    65536
+    n
+}
+
+// Argument i, put at the start of a buffer; how many bytes it has, 0 if there is none or it has no room.
+pub fn put_argument(rt: &impl Env, i: usize, buffer: &mut [u8]) -> usize
+    ensures { IsPrefixLen result buffer.new }
+{
+    match rt.arg(i, buffer) {
+        Ok(n) => n,
+        Err(_) => 0,
+    }
 }
 
 // ---- the place of an option
 
 // Where an option's value stands: in which argument, 0 if the option is not given, and from where on in it.
-#[derive(Drop)]
+#[derive(Clone, Copy)]
 pub struct Place {
     pub argument: usize,
     pub from: usize,
@@ -189,15 +214,14 @@ fn value_in(i: usize, argument: &[u8], name: &[u8]) -> Place
     nowhere()
 }
 
-fn value_at(i: usize, name: &[u8], before: Place) -> Place
+fn value_at(rt: &impl Env, i: usize, name: &[u8], before: Place) -> Place
     requires { (i < 65536) × (before.argument ≤ 65536) }
     ensures { result.argument ≤ 65536 }
 {
     let mut argument = io::buffer();
-    let n = os::arg(i, &mut argument);
-    if os::errno() != 0 {
+    let Ok(n) = rt.arg(i, &mut argument) else {
         return before;
-    }
+    };
     let place = value_in(i, &argument[..n], name);
     if place.argument == 0 {
         return before;
@@ -206,33 +230,33 @@ fn value_at(i: usize, name: &[u8], before: Place) -> Place
 }
 
 // The value of the last option of this name.
-pub fn place_of(name: &[u8]) -> Place
+pub fn place_of(rt: &impl Env, name: &[u8]) -> Place
     ensures { result.argument ≤ 65536 }
 {
-    let n = arguments();
+    let n = arguments(rt);
     let mut place = nowhere();
     let mut i: usize = 1;
     while i < n {
-        if is_end(i) {
+        if is_end(rt, i) {
             return place;
         }
-        place = value_at(i, name, place);
-        i = after(i);
+        place = value_at(rt, i, name, place);
+        i = after(rt, i);
     }
     place
 }
 
 // ---- what is wrong with them
 
-fn say_argument(i: usize) {
+fn say_argument(rt: &impl Env, i: usize) {
     let mut argument = io::buffer();
-    let n = os::arg(i, &mut argument);
+    let n = put_argument(rt, i, &mut argument);
     printing::say(b"run_circuit: ");
     printing::say_word(&argument, 0, n);
 }
 
-fn say_unknown(i: usize) {
-    say_argument(i);
+fn say_unknown(rt: &impl Env, i: usize) {
+    say_argument(rt, i);
     printing::say(b": there is no such option; run_circuit --help lists what there is\n");
 }
 
@@ -242,44 +266,44 @@ fn say_too_long(i: usize) {
     printing::say(b" has more than 4096 bytes\n");
 }
 
-fn say_missing(i: usize) {
-    say_argument(i);
+fn say_missing(rt: &impl Env, i: usize) {
+    say_argument(rt, i);
     printing::say(b": a value was expected after it\n");
 }
 
-fn say_second_file(i: usize) {
-    say_argument(i);
+fn say_second_file(rt: &impl Env, i: usize) {
+    say_argument(rt, i);
     printing::say(b": one file was expected, and this is the second\n");
 }
 
 // Which argument is the file: 0 if there is none. `ok`: all arguments are known and complete, else it is said what is wrong.
-#[derive(Drop)]
+#[derive(Clone, Copy)]
 pub struct File {
     pub ok: bool,
     pub place: usize,
 }
 
 // Argument i is a file.
-fn file_at(i: usize, place: usize) -> File
+fn file_at(rt: &impl Env, i: usize, place: usize) -> File
     requires { (i < 65536) × (place ≤ 65536) }
     ensures { result.place ≤ 65536 }
 {
     if place == 0 {
         return File { ok: true, place: i };
     }
-    say_second_file(i);
+    say_second_file(rt, i);
     File { ok: false, place }
 }
 
 // Argument i of n, after those before it.
-fn looked_at(i: usize, n: usize, place: usize) -> File
+fn looked_at(rt: &impl Env, i: usize, n: usize, place: usize) -> File
     requires { (i < 65536) × (place ≤ 65536) }
     ensures { result.place ≤ 65536 }
 {
-    let kind = kind_at(i);
+    let kind = kind_at(rt, i);
     match kind {
         Kind::Unknown => {
-            say_unknown(i);
+            say_unknown(rt, i);
             File { ok: false, place }
         }
         Kind::TooLong => {
@@ -290,23 +314,23 @@ fn looked_at(i: usize, n: usize, place: usize) -> File
             if i + 1 < n {
                 return File { ok: true, place };
             }
-            say_missing(i);
+            say_missing(rt, i);
             File { ok: false, place }
         }
-        Kind::File => file_at(i, place),
+        Kind::File => file_at(rt, i, place),
         _ => File { ok: true, place },
     }
 }
 
 // The arguments from one on, which are no options.
-fn plain_files(from: usize, n: usize, before: File) -> File
+fn plain_files(rt: &impl Env, from: usize, n: usize, before: File) -> File
     requires { (from ≤ 65536) × (n ≤ 65536) × (before.place ≤ 65536) }
     ensures { result.place ≤ 65536 }
 {
     let mut f = before;
     let mut i = from;
     while i < n {
-        f = file_at(i, f.place);
+        f = file_at(rt, i, f.place);
         if !f.ok {
             return f;
         }
@@ -316,30 +340,30 @@ fn plain_files(from: usize, n: usize, before: File) -> File
 }
 
 // All arguments looked at.
-pub fn files() -> File
+pub fn files(rt: &impl Env) -> File
     ensures { result.place ≤ 65536 }
 {
-    let n = arguments();
+    let n = arguments(rt);
     let mut place = 0;
     let mut i: usize = 1;
     while i < n {
-        let f = looked_at(i, n, place);
+        let f = looked_at(rt, i, n, place);
         if !f.ok {
             return f;
         }
         place = f.place;
-        if is_end(i) {
-            return plain_files(i + 1, n, f);
+        if is_end(rt, i) {
+            return plain_files(rt, i + 1, n, f);
         }
-        i = after(i);
+        i = after(rt, i);
     }
     File { ok: true, place }
 }
 
 // ---- their values
 
-pub fn is_given(name: &[u8]) -> bool {
-    let place = place_of(name);
+pub fn is_given(rt: &impl Env, name: &[u8]) -> bool {
+    let place = place_of(rt, name);
     place.argument != 0
 }
 
@@ -361,15 +385,15 @@ fn moved_down(buffer: &mut [u8], from: usize, to: usize) -> usize
 }
 
 // An option's value, put at the start of a buffer; how many bytes it has.
-pub fn value_of(place: Place, buffer: &mut [u8]) -> usize
+pub fn value_of(rt: &impl Env, place: Place, buffer: &mut [u8]) -> usize
     ensures { IsPrefixLen result buffer.new }
 {
-    let n = os::arg(place.argument, buffer);
+    let n = put_argument(rt, place.argument, buffer);
     moved_down(buffer, place.from, n)
 }
 
 // The number of an option, or what it is without the option; `ok`: it is one of those that are allowed, else it is said what is wrong.
-#[derive(Drop)]
+#[derive(Clone, Copy)]
 pub struct Count {
     pub ok: bool,
     pub value: usize,
@@ -417,6 +441,7 @@ fn count_of(value: &[u8], least: usize, most: usize) -> Count
 }
 
 pub fn count_option(
+    rt: &impl Env,
     name: &[u8],
     least: usize,
     most: usize,
@@ -426,7 +451,7 @@ pub fn count_option(
     requires { without ≤ most }
     ensures { result.value ≤ most }
 {
-    let place = place_of(name);
+    let place = place_of(rt, name);
     if place.argument == 0 {
         return Count {
             ok: true,
@@ -434,7 +459,7 @@ pub fn count_option(
         };
     }
     let mut value = io::buffer();
-    let n = value_of(place, &mut value);
+    let n = value_of(rt, place, &mut value);
     let c = count_of(&value[..n], least, most);
     if !c.ok {
         say_bad(name, &value[..n], expected);
@@ -443,7 +468,7 @@ pub fn count_option(
 }
 
 // The same for a decimal number of 0 or more.
-#[derive(Drop)]
+#[derive(Clone, Copy)]
 pub struct Bound {
     pub ok: bool,
     pub value: f64,
@@ -486,8 +511,8 @@ fn say_no_bound(name: &[u8], value: &[u8]) {
     );
 }
 
-pub fn bound_option(name: &[u8], without: f64) -> Bound {
-    let place = place_of(name);
+pub fn bound_option(rt: &impl Env, name: &[u8], without: f64) -> Bound {
+    let place = place_of(rt, name);
     if place.argument == 0 {
         return Bound {
             ok: true,
@@ -495,7 +520,7 @@ pub fn bound_option(name: &[u8], without: f64) -> Bound {
         };
     }
     let mut value = io::buffer();
-    let n = value_of(place, &mut value);
+    let n = value_of(rt, place, &mut value);
     let b = bound_of(&value[..n]);
     if !b.ok {
         say_no_bound(name, &value[..n]);
@@ -507,7 +532,7 @@ pub fn bound_option(name: &[u8], without: f64) -> Bound {
 
 // How many there are, 0 without the option; their values, and from where to where each one stands in the option's value. `ok`: they can be
 // tried, else it is said why not.
-#[derive(Drop)]
+#[derive(Clone, Copy)]
 pub struct Cutoffs {
     pub ok: bool,
     pub count: usize,
@@ -534,7 +559,7 @@ fn cutoffs_of(list: &[u8]) -> Cutoffs {
     let mut count: usize = 0;
     let mut at: usize = 0;
     while count < 8 {
-        let end = bytes::scan::find(list, at, list.len(), b',');
+        let end = scan::find(list, at, list.len(), b',');
         let b = bound_of(&list[at..end]);
         if !b.ok {
             say_no_bound(b"--try-cutoffs", &list[at..end]);
@@ -564,8 +589,8 @@ fn cutoffs_of(list: &[u8]) -> Cutoffs {
 }
 
 // Whether an option that says nothing about trials is left out; else it is said why it has to be.
-fn is_left_out(name: &[u8], why: &[u8]) -> bool {
-    if is_given(name) {
+fn is_left_out(rt: &impl Env, name: &[u8], why: &[u8]) -> bool {
+    if is_given(rt, name) {
         printing::say(b"run_circuit: ");
         printing::say(name);
         printing::say(b" cannot be given with --try-cutoffs: ");
@@ -576,31 +601,34 @@ fn is_left_out(name: &[u8], why: &[u8]) -> bool {
     true
 }
 
-fn are_left_out() -> bool {
+fn are_left_out(rt: &impl Env) -> bool {
     let cutoff = is_left_out(
+        rt,
         b"--cutoff",
         b"each trial has a cutoff of its own, from the list",
     );
     let lost = is_left_out(
+        rt,
         b"--max-lost",
         b"the trials count entries, and what they lose is not told",
     );
     let output = is_left_out(
+        rt,
         b"--output",
         b"what is printed is the table of the entries after each step",
     );
     cutoff && lost && output
 }
 
-pub fn cutoffs_option() -> Cutoffs {
-    let place = place_of(b"--try-cutoffs");
+pub fn cutoffs_option(rt: &impl Env) -> Cutoffs {
+    let place = place_of(rt, b"--try-cutoffs");
     if place.argument == 0 {
         return no_cutoffs(true);
     }
     let mut list = io::buffer();
-    let n = value_of(place, &mut list);
+    let n = value_of(rt, place, &mut list);
     let c = cutoffs_of(&list[..n]);
-    if are_left_out() {
+    if are_left_out(rt) {
         return c;
     }
     no_cutoffs(false)
@@ -609,7 +637,7 @@ pub fn cutoffs_option() -> Cutoffs {
 // ---- what is printed
 
 // What is printed; `ok`: it is known.
-#[derive(Drop)]
+#[derive(Clone, Copy)]
 pub struct Choice {
     pub ok: bool,
     pub output: Output,
@@ -646,8 +674,8 @@ fn choice_of(value: &[u8]) -> Choice {
     }
 }
 
-pub fn output_option() -> Choice {
-    let place = place_of(b"--output");
+pub fn output_option(rt: &impl Env) -> Choice {
+    let place = place_of(rt, b"--output");
     if place.argument == 0 {
         return Choice {
             ok: true,
@@ -655,7 +683,7 @@ pub fn output_option() -> Choice {
         };
     }
     let mut value = io::buffer();
-    let n = value_of(place, &mut value);
+    let n = value_of(rt, place, &mut value);
     let c = choice_of(&value[..n]);
     if !c.ok {
         say_bad(b"--output", &value[..n], b"sheet, page, table or trace");

@@ -1,4 +1,6 @@
 // The weight page, written: document 02, request 1.
+#![tactic(auto)]
+
 mod share;
 
 ghost use Rattle.std.specs.Prelude.{◌≡◌, true, map, ◌*◌, ◌<◌, ◌≤◌, length, get_or};

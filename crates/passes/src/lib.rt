@@ -1,4 +1,6 @@
 // A pass through the lines of a circuit: where it stands, and how it ended.
+#![tactic(auto)]
+
 ghost use Rattle.std.specs.Prelude.{◌≡◌, true};
 ghost use Rattle.passes.specs.Going.{is_going};
 
@@ -6,7 +8,7 @@ use circuit::Fault;
 use input::Window;
 
 // Why a pass stands still.
-#[derive(Drop)]
+#[derive(Clone, Copy)]
 pub enum Outcome {
     // It does not.
     Going,
@@ -38,7 +40,7 @@ pub enum Outcome {
 
 // The window and the number of the line that was read last, and how many REPEATs are open; the word that the outcome speaks of, from a place
 // of the line to another.
-#[derive(Drop)]
+#[derive(Clone, Copy)]
 pub struct Pass {
     pub window: Window,
     pub line: u64,

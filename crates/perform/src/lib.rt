@@ -7,6 +7,8 @@
 // What it gives goes to a record: number, merged, stored, dropped, compared, place, length, the bits of the dropped and of the truncated
 // weight, entries, flag, and behind these a table's words or a view's. A sheet or a page goes to a text. specs/Encoding.antt says which
 // words are which call, specs/Records.antt what is left.
+#![tactic(auto)]
+
 ghost use Rattle.std.specs.Prelude.{◌≡◌, true, ℕ, ◌<◌, ◌≤◌, length, get_or};
 ghost use Rattle.model.specs.Channels.{one};
 ghost use Rattle.model.specs.Calls as Calls;

@@ -1,4 +1,6 @@
 // A list of entries given by their places in the store: entries leave it, and the store is put into its order.
+#![tactic(auto)]
+
 ghost use Rattle.std.specs.Prelude.{◌≡◌, ℕ, ◌+◌, ◌<◌, ◌≤◌, length, get_or};
 ghost use Rattle.model.specs.Entries.{listed};
 ghost use Rattle.model.specs.Sound.{Packed};

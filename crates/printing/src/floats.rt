@@ -5,7 +5,7 @@ ghost use Rattle.std.specs.Prelude.{◌≤◌};
 use crate::{after, put, put_byte};
 
 // A number from 1 to below 10, and the power of ten that it stands beside: 10^power, or 10^-power if `below`.
-#[derive(Drop)]
+#[derive(Clone, Copy)]
 struct Power {
     digits: f64,
     power: u64,

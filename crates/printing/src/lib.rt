@@ -1,10 +1,14 @@
 // What programs print: rows of text, put together and then written at once. A function puts something at a place of a row and answers
 // the place after it; what has no room is left out.
+#![tactic(auto)]
+
+mod failed;
 mod floats;
 mod said;
 
 ghost use Rattle.std.specs.Prelude.{◌≤◌};
 
+pub use failed::{say_failed, say_why};
 pub use floats::{put_float, put_float_alone};
 pub use said::{say, say_float, say_number, say_word};
 

@@ -1,7 +1,7 @@
 // What is said on standard error.
 ghost use Rattle.std.specs.Prelude.{◌≤◌};
 
-use libc::STDERR_FILENO;
+use streams::STDERR_FILENO;
 
 pub fn say(t: &[u8]) {
     io::write_all(STDERR_FILENO, t);

@@ -8,11 +8,12 @@ use native.Mathlib.Omega.{arith}
 use lib.Dec.{T, ltb}
 use lib.Ieee.{Float, binary64, fits}
 use lib.Ieee.Bits.{of_bits-to_bits, to_bits-lt}
-use lib.ListN.{length}
+use lib.ListN.{length, get_or}
 use lib.Seq.{take_at, drop_at}
 use borrow.Author.Tests.{lt-ltb, ltb-false}
 use Rattle.model.specs.Lists.{every, joined}
-use Rattle.model.specs.Floats.{bits}
+use Rattle.model.specs.Floats.{bits, float}
+use Rattle.model.specs.Entries.{Entry}
 use Rattle.model.specs.Sheet.{Sheet, line, line_len, first_line, sheet_lines, sheet_text, also, line_fields, lines_fields, read_lines, read_sheet}
 use Rattle.model.specs.Numbers.{gives, first_of, size_sound, bounds_sound, entries_sound}
 use Rattle.model.specs.Calls.{sheet_tests}
@@ -99,7 +100,7 @@ module _ (t : Sheet) (len : ℕ) (w : Writable t len) where
   lines-back : read_lines (some (first_line t)) (some (lines_of t.size t.entries)) ≡ some t
   unfolding read_lines first_line also
   lines-back =
-      ap (also _ (some (first_line t))) (entries-back t.size t.entries w.entries each-sound)
+      ap (also (λ (h : List ℕ) (es : List Entry). record { size = record { n = get_or h 0 0; k = get_or h 1 0; capacity = get_or h 2 0 }; threshold = float (get_or h 4 0); cutoff = float (get_or h 5 0); entries = es }) (some (first_line t))) (entries-back t.size t.entries w.entries each-sound)
       ∙ ap₂ (λ (x y : Float). some (record { size = t.size; threshold = x; cutoff = y; entries = t.entries })) (of_bits-to_bits binary64 t.threshold w.threshold) (of_bits-to_bits binary64 t.cutoff w.cutoff)
 
   -- A SHEET THAT IS WRITTEN IS READ AS IT WAS

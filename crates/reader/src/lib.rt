@@ -1,4 +1,6 @@
 // The sheet, read: document 01, "The sheet". A text is read from the front: `text` in the functions below is what is left of it.
+#![tactic(auto)]
+
 ghost use Rattle.std.specs.Prelude.{◌≡◌, true, [], ◌∷◌, map, ◌+◌, ◌*◌, ◌≤◌, length, take, drop, get_or};
 ghost use Rattle.model.specs.Lists.{joined};
 ghost use Rattle.model.specs.Entries.{entry_len, words_of, pack};

@@ -1,4 +1,6 @@
 // Keys rebuilt; weights and keys saved, and put back. What a function does, it does to the list of entries.
+#![tactic(auto)]
+
 ghost use Rattle.std.specs.Prelude.{◌≡◌, map, ℕ, ◌+◌, ◌*◌, ◌<◌, ◌≤◌, length, take};
 ghost use Rattle.model.specs.Entries.{entry_len, listed};
 ghost use Rattle.model.specs.Keys.{usual_salts, word_key_of, phase_loss_key_of};

@@ -3,9 +3,11 @@
 // to twenty words that the call wrote or shows. A start has its number in place of the record. Of a list of more calls: its number and how
 // many were made, and then the numbers of every record, a line each. differential/replay.py has the cases, and makes both the input and
 // what is to come out.
-use libc::STDIN_FILENO;
+#![tactic(auto)]
+
 use model::{Header, MAX_CAPACITY, MAX_COEFFICIENTS, MAX_ENTRY_WORDS, MAX_QUBITS, Size};
 use runs::Room;
+use streams::STDIN_FILENO;
 use test_support::{LIST_WORDS, LOG_WORDS, MOST_SHOWN, NUMBER_WORDS, RECORD_WORDS, SHOWN_WORDS};
 
 // What is lent: after word 0 the header's seven words, how many words of the store, and how many bytes of the text.

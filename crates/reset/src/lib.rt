@@ -1,5 +1,7 @@
 // Lost entries leave, become live and are merged: document 01, point 6. They stay where they stand while they are merged: the list is given
 // by the places of its entries, and the store is put into its order at the end.
+#![tactic(auto)]
+
 mod call;
 
 ghost use Rattle.std.specs.Prelude.{◌≡◌, cond, map, ℕ, ◌+◌, ◌*◌, ◌-◌, ◌<◌, ◌≤◌, length, get_or, set};
@@ -21,7 +23,7 @@ use model::{Answer, BranchMutation, Found, Header, Size};
 use seeking::Sought;
 
 // An entry that left: its place, and the qubit that it is lost at.
-#[derive(Drop)]
+#[derive(Clone, Copy)]
 pub struct LostEntry {
     pub place: usize,
     pub qubit: usize,

@@ -4,13 +4,14 @@ ghost use Rattle.model.specs.Known.{Checked};
 
 use crate::{outputs, trying};
 use input::Source;
-use libc::STDERR_FILENO;
 use model::{Header, Size};
 use options::{Cutoffs, Output};
 use second_pass::{STACK_WORDS, Wanted};
+use std::env::Env;
+use streams::STDERR_FILENO;
 
 // What the options say. `qubits` 0: as many as the circuit needs. `cutoffs` of which there are none: the circuit is run.
-#[derive(Drop)]
+#[derive(Clone, Copy)]
 pub struct Setup {
     pub qubits: usize,
     pub capacity: usize,
@@ -25,7 +26,7 @@ pub struct Setup {
 // ---- the first pass
 
 // Whether all lines are good, and how many qubits they need.
-#[derive(Drop)]
+#[derive(Clone, Copy)]
 struct Looked {
     ok: bool,
     qubits: usize,
@@ -41,7 +42,7 @@ fn none() -> Looked {
 const MOST_TOLD: usize = 20;
 
 // Bad lines are told, the first 20 of them.
-fn look(s: Source, name: &[u8], bytes: &mut [u8], limit: usize) -> Looked {
+fn look(s: &Source, name: &[u8], bytes: &mut [u8], limit: usize) -> Looked {
     let mut begun = [0u64; 64];
     let mut c = first_pass::start();
     let mut told: usize = 0;
@@ -88,7 +89,7 @@ fn print(output: Output, h: Header, store: &[u64]) -> bool {
 
 // The circuit run from a fresh sum on. Whether all that was asked for is written.
 fn run_from(
-    source: Source,
+    source: &Source,
     name: &[u8],
     bytes: &mut [u8],
     store: &mut [u64],
@@ -148,7 +149,7 @@ fn store_room() -> [u64; 100_352] {
 
 // From a fresh sum on, in a store of the length that its size has.
 fn run_fresh(
-    source: Source,
+    source: &Source,
     name: &[u8],
     bytes: &mut [u8],
     store: &mut [u64],
@@ -168,7 +169,7 @@ fn run_fresh(
 }
 
 // .. and another one of the largest length, where it is tried by how much a call outgrew its room.
-fn run_in_stores(source: Source, name: &[u8], bytes: &mut [u8], n: usize, s: Setup) -> bool {
+fn run_in_stores(source: &Source, name: &[u8], bytes: &mut [u8], n: usize, s: Setup) -> bool {
     let mut store = store_room();
     let mut scratch = store_room();
     let end = calls::words(n, s.capacity);
@@ -176,10 +177,18 @@ fn run_in_stores(source: Source, name: &[u8], bytes: &mut [u8], n: usize, s: Set
 }
 
 // .. or tried there.
-fn try_in_store(source: Source, name: &[u8], bytes: &mut [u8], n: usize, s: Setup) -> bool {
+fn try_in_store(
+    rt: &impl Env,
+    source: &Source,
+    name: &[u8],
+    bytes: &mut [u8],
+    n: usize,
+    s: Setup,
+) -> bool {
     let mut store = store_room();
     let end = calls::words(n, s.capacity);
     trying::run(
+        rt,
         source,
         name,
         bytes,
@@ -217,7 +226,7 @@ fn qubits_of(s: Setup, otherwise: usize) -> usize {
 }
 
 // Whether all that was asked for is written; else it was said why not.
-pub fn run(source: Source, name: &[u8], bytes: &mut [u8], s: Setup) -> bool {
+pub fn run(rt: &impl Env, source: &Source, name: &[u8], bytes: &mut [u8], s: Setup) -> bool {
     let l = look(source, name, bytes, qubits_of(s, 64));
     if !l.ok {
         return false;
@@ -225,7 +234,7 @@ pub fn run(source: Source, name: &[u8], bytes: &mut [u8], s: Setup) -> bool {
     let cutoffs = s.cutoffs;
     let n = qubits_of(s, l.qubits);
     if cutoffs.count != 0 {
-        return try_in_store(source, name, bytes, n, s);
+        return try_in_store(rt, source, name, bytes, n, s);
     }
     if l.qubits == 0 {
         if !may_be_empty(name, s) {

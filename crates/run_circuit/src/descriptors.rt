@@ -1,19 +1,34 @@
 // The first three descriptors. Where one of them is closed, a file that is opened would get its number, and what is meant for the one would go to
 // the other: so then nothing is run.
-use libc::{STDERR_FILENO, STDIN_FILENO, STDOUT_FILENO};
+use std::fs;
+use std::fs::OpenOptions;
+use std::io::{Error, ErrorKind, Result};
+use std::os::fd::AsFd;
+use std::rt::HostRuntime;
+use streams::STDOUT_FILENO;
 
-// A pipe or a terminal has no offset either; errno tells them apart.
-fn is_closed(fd: i32) -> bool {
-    let at = libc::lseek(fd, 0, libc::SEEK_CUR);
-    if 0 <= at {
-        return false;
+// What the system answers where a descriptor is not open.
+const NOT_OPEN: i32 = 9;
+
+fn is_not_open(e: Error) -> bool {
+    match e.raw_os_error() {
+        Some(code) => code == NOT_OPEN,
+        None => false,
     }
-    os::errno() == libc::EBADF
+}
+
+// No other descriptor can be made of one that is closed.
+fn is_closed<F: AsFd>(stream: &F) -> bool {
+    let borrowed = stream.as_fd();
+    match borrowed.try_clone_to_owned() {
+        Ok(_) => false,
+        Err(e) => is_not_open(e),
+    }
 }
 
 // Standard error is not there to say it.
-fn say_no_error() {
-    if !is_closed(STDOUT_FILENO) {
+fn say_no_error(rt: &HostRuntime) {
+    if !is_closed(&rt.stdout()) {
         io::write_all(
             STDOUT_FILENO,
             b"run_circuit: standard error is closed; nothing was run (2>/dev/null throws it away)\n",
@@ -22,13 +37,13 @@ fn say_no_error() {
 }
 
 // Whether all three are open; else it is said which is not.
-pub fn are_open() -> bool {
-    if is_closed(STDERR_FILENO) {
-        say_no_error();
+pub fn are_open(rt: &HostRuntime) -> bool {
+    if is_closed(&rt.stderr()) {
+        say_no_error(rt);
         return false;
     }
-    let no_input = is_closed(STDIN_FILENO);
-    let no_output = is_closed(STDOUT_FILENO);
+    let no_input = is_closed(&rt.stdin());
+    let no_output = is_closed(&rt.stdout());
     if no_input {
         printing::say(
             b"run_circuit: standard input is closed; nothing was run (</dev/null gives none)\n",
@@ -42,7 +57,23 @@ pub fn are_open() -> bool {
     !no_input && !no_output
 }
 
-// Whether that succeeds.
-pub fn close_output() -> bool {
-    0 <= libc::close(STDOUT_FILENO)
+const OUTPUT: &str = "/proc/self/fd/1";
+
+// Whether standard output is a file that keeps what is written to it.
+fn is_kept(rt: &HostRuntime) -> bool {
+    match fs::metadata(rt, OUTPUT) {
+        Ok(m) => m.is_file(),
+        Err(_) => false,
+    }
+}
+
+// What was written to standard output is brought to where it is kept.
+pub fn keep_output(rt: &HostRuntime) -> Result<()> {
+    if !is_kept(rt) {
+        return Ok(());
+    }
+    match OpenOptions::new().write(true).open(rt, OUTPUT) {
+        Ok(file) => file.sync_all(),
+        Err(_) => Ok(()),
+    }
 }

@@ -1,5 +1,5 @@
 // What --help and --version print. Whether it was written.
-use libc::STDOUT_FILENO;
+use streams::STDOUT_FILENO;
 
 pub fn write() -> bool {
     io::write_all(

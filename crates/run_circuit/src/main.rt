@@ -1,5 +1,7 @@
 // Runs a circuit, in a subset of Stim's circuit language, and prints the weight sheet, the weight page, the sampling table or a trace; or tries
 // cutoffs on it, and prints how many entries each leads to.
+#![tactic(auto)]
+
 mod both_passes;
 mod descriptors;
 mod help;
@@ -9,9 +11,13 @@ mod trying;
 ghost use Rattle.std.specs.Prelude.{◌≤◌};
 
 use both_passes::Setup;
+use input::Given;
+use std::fs::File;
+use std::io::{Error, ErrorKind, Result};
+use std::rt::HostRuntime;
 
 // How a run ends.
-#[derive(Drop)]
+#[derive(Clone, Copy)]
 enum Status {
     // Everything that was asked for is written.
     Done,
@@ -30,73 +36,81 @@ fn status_of(done: bool) -> Status {
 
 // ---- the circuit
 
-// What the descriptor gives is copied to a folder and run.
-fn run_in(from: i32, name: &[u8], folder: &[u8], s: Setup) -> bool {
+// What is given is copied to a folder and run.
+fn run_in(rt: &HostRuntime, given: Given, name: &[u8], folder: &[u8], s: Setup) -> bool {
     let mut bytes = io::large_buffer();
-    let source = input::take(from, name, folder, &mut bytes);
-    if !source.ok {
-        return false;
+    match input::take(rt, given, name, folder, &mut bytes) {
+        Some(source) => both_passes::run(rt, &source, name, &mut bytes, s),
+        None => false,
     }
-    both_passes::run(source, name, &mut bytes, s)
 }
 
 // .. to the folder that an option names, or to /tmp.
-fn run_from(from: i32, name: &[u8], s: Setup) -> Status {
-    let place = options::place_of(b"--tmpdir");
+fn run_from(rt: &HostRuntime, given: Given, name: &[u8], s: Setup) -> Status {
+    let place = options::place_of(rt, b"--tmpdir");
     if place.argument == 0 {
-        return status_of(run_in(from, name, b"/tmp", s));
+        return status_of(run_in(rt, given, name, b"/tmp", s));
     }
     let mut folder = io::buffer();
-    let n = options::value_of(place, &mut folder);
+    let n = options::value_of(rt, place, &mut folder);
     if n == 0 {
         printing::say(b"run_circuit: --tmpdir: the name of a folder was expected\n");
         return Status::Usage;
     }
-    status_of(run_in(from, name, &folder[..n], s))
+    status_of(run_in(rt, given, name, &folder[..n], s))
 }
 
-fn run_input(s: Setup) -> Status {
-    run_from(libc::STDIN_FILENO, b"standard input", s)
+fn run_input(rt: &HostRuntime, s: Setup) -> Status {
+    run_from(rt, Given::Input, b"standard input", s)
 }
 
-fn run_file(name: &[u8], s: Setup) -> Status {
-    let fd = os::open_read(name);
-    if fd < 0 {
-        os::fail(name);
-        return Status::Failed;
+fn opened(rt: &HostRuntime, name: &[u8]) -> Result<File> {
+    match str::from_utf8(name) {
+        Ok(path) => File::open(rt, path),
+        Err(_) => Err(Error::new(ErrorKind::InvalidInput, "the name of a file is UTF-8 text")),
     }
-    run_from(fd, name, s)
+}
+
+fn run_file(rt: &HostRuntime, name: &[u8], s: Setup) -> Status {
+    match opened(rt, name) {
+        Ok(file) => run_from(rt, Given::Named(file), name, s),
+        Err(e) => {
+            printing::say_why(name, e);
+            Status::Failed
+        }
+    }
 }
 
 // Argument `place` names the file; 0 and `-` are standard input.
-fn run_named(place: usize, s: Setup) -> Status {
+fn run_named(rt: &HostRuntime, place: usize, s: Setup) -> Status {
     let mut name = io::buffer();
-    let n = os::arg(place, &mut name);
+    let n = options::put_argument(rt, place, &mut name);
     if place == 0 {
-        return run_input(s);
+        return run_input(rt, s);
     }
     if check::same(&name[..n], b"-") {
-        return run_input(s);
+        return run_input(rt, s);
     }
-    run_file(&name[..n], s)
+    run_file(rt, &name[..n], s)
 }
 
 // ---- the arguments
 
-fn run_options(place: usize) -> Status {
-    let qubits = options::count_option(b"--qubits", 1, 64, 0, b"a whole number from 1 to 64");
+fn run_options(rt: &HostRuntime, place: usize) -> Status {
+    let qubits = options::count_option(rt, b"--qubits", 1, 64, 0, b"a whole number from 1 to 64");
     let capacity = options::count_option(
+        rt,
         b"--capacity",
         1,
         256,
         256,
         b"a whole number from 1 to 256",
     );
-    let threshold = options::bound_option(b"--threshold", 0.00000001);
-    let cutoff = options::bound_option(b"--cutoff", 0.0);
-    let cutoffs = options::cutoffs_option();
-    let most_lost = options::bound_option(b"--max-lost", 2.0);
-    let choice = options::output_option();
+    let threshold = options::bound_option(rt, b"--threshold", 0.00000001);
+    let cutoff = options::bound_option(rt, b"--cutoff", 0.0);
+    let cutoffs = options::cutoffs_option(rt);
+    let most_lost = options::bound_option(rt, b"--max-lost", 2.0);
+    let choice = options::output_option(rt);
     let output = choice.output;
     let setup = Setup {
         qubits: qubits.value,
@@ -106,32 +120,32 @@ fn run_options(place: usize) -> Status {
         cutoffs,
         most_lost: most_lost.value,
         output,
-        quiet: options::is_given(b"--quiet"),
+        quiet: options::is_given(rt, b"--quiet"),
     };
     let sound = qubits.ok && capacity.ok && threshold.ok && cutoff.ok && cutoffs.ok;
     if sound && most_lost.ok && choice.ok {
-        return run_named(place, setup);
+        return run_named(rt, place, setup);
     }
     Status::Usage
 }
 
-fn run_arguments() -> Status {
-    let f = options::files();
+fn run_arguments(rt: &HostRuntime) -> Status {
+    let f = options::files(rt);
     if !f.ok {
         return Status::Usage;
     }
-    if options::is_given(b"--help") || options::is_given(b"-h") {
+    if options::is_given(rt, b"--help") || options::is_given(rt, b"-h") {
         return status_of(outputs::is_written(help::write()));
     }
-    if options::is_given(b"--version") {
+    if options::is_given(rt, b"--version") {
         return status_of(outputs::is_written(help::write_version()));
     }
-    run_options(f.place)
+    run_options(rt, f.place)
 }
 
 // ---- the report
 
-// A status, written to a descriptor, since a program in Rattle cannot end with one. 0: to none.
+// A status, written to a descriptor: the program itself always ends with 0. 0: to none.
 fn report(to: usize, status: Status)
     requires { to ≤ 255 }
 {
@@ -145,25 +159,25 @@ fn report(to: usize, status: Status)
         Status::Usage => io::write_all(fd, b"2\n"),
     };
     if !written {
-        os::fail(b"run_circuit: --report");
+        printing::say_failed(b"run_circuit: --report");
     }
 }
 
-// All of it. Standard output is closed here, since some file systems tell only then that they could not write.
-fn run_all() -> Status {
-    let status = run_arguments();
+// All of it. What was written to standard output is kept here, since some file systems tell only then that they could not write.
+fn run_all(rt: &HostRuntime) -> Status {
+    let status = run_arguments(rt);
     if let Status::Done = status {
-        return status_of(outputs::is_written(descriptors::close_output()));
+        return status_of(outputs::is_kept(descriptors::keep_output(rt)));
     }
     status
 }
 
-fn main() {
-    if !descriptors::are_open() {
+fn main(rt: HostRuntime) {
+    if !descriptors::are_open(&rt) {
         return;
     }
-    let to = options::count_option(b"--report", 3, 255, 0, b"a descriptor from 3 to 255");
+    let to = options::count_option(&rt, b"--report", 3, 255, 0, b"a descriptor from 3 to 255");
     if to.ok {
-        report(to.value, run_all());
+        report(to.value, run_all(&rt));
     }
 }

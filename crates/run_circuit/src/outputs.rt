@@ -1,7 +1,8 @@
 // What is printed at the end of a run: the sheet, the page or the table, and the summary.
-use libc::{STDERR_FILENO, STDOUT_FILENO};
 use model::{Answer, Header};
 use second_pass::Run;
+use std::io::Result;
+use streams::{STDERR_FILENO, STDOUT_FILENO};
 
 pub fn tell_refused(what: &[u8], number: u64) {
     printing::say(b"run_circuit: ");
@@ -16,9 +17,20 @@ pub fn tell_refused(what: &[u8], number: u64) {
 // Whether something was written to standard output; else it is said why not.
 pub fn is_written(written: bool) -> bool {
     if !written {
-        os::fail(b"run_circuit: standard output");
+        printing::say_failed(b"run_circuit: standard output");
     }
     written
+}
+
+// .. brought to where it is kept.
+pub fn is_kept(kept: Result<()>) -> bool {
+    match kept {
+        Ok(()) => true,
+        Err(e) => {
+            printing::say_why(b"run_circuit: standard output", e);
+            false
+        }
+    }
 }
 
 // The text that a call gave this answer for, printed. Whether it was written; else it is said why not. (No call writes more than it has room

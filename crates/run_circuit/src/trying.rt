@@ -3,6 +3,7 @@ use crate::outputs;
 use input::Source;
 use model::Size;
 use options::Cutoffs;
+use std::env::Env;
 use step_pass::Gathered;
 
 // It is said that the call was refused with a number.
@@ -12,7 +13,14 @@ fn refused(number: u64) -> bool {
 }
 
 // Steps that there are, tried. Whether the table is written; else it is said why not.
-fn try_steps(g: Gathered, store: &mut [u64], size: Size, threshold: f64, c: Cutoffs) -> bool {
+fn try_steps(
+    rt: &impl Env,
+    g: Gathered,
+    store: &mut [u64],
+    size: Size,
+    threshold: f64,
+    c: Cutoffs,
+) -> bool {
     let mut out = [0u64; 1024];
     let steps = g.steps;
     let values = c.values;
@@ -24,12 +32,13 @@ fn try_steps(g: Gathered, store: &mut [u64], size: Size, threshold: f64, c: Cuto
     if number != 0 {
         return refused(number);
     }
-    outputs::is_written(entries_table::write(steps, g.count, c, &out))
+    outputs::is_written(entries_table::write(rt, steps, g.count, c, &out))
 }
 
 // The steps of a circuit that was looked at, in a store of the length that its size has.
 pub fn run(
-    source: Source,
+    rt: &impl Env,
+    source: &Source,
     name: &[u8],
     bytes: &mut [u8],
     store: &mut [u64],
@@ -49,5 +58,5 @@ pub fn run(
         );
         return false;
     }
-    try_steps(g, store, size, threshold, c)
+    try_steps(rt, g, store, size, threshold, c)
 }

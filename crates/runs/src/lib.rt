@@ -1,5 +1,7 @@
 // A list of calls, each from its words, run on a lent store. `run` goes on from a header; `run_fresh` and `run_sheet` begin the sum
 // themselves, and promise what demand 3 says of compiled code: specs/Promise.antt.
+#![tactic(auto)]
+
 ghost use Rattle.std.specs.Prelude.{◌≡◌, true, not, ◌&&◌, ◌*◌, ◌≤◌, eqb, leb, length};
 ghost use Rattle.model.specs.Lists.{groups, every};
 ghost use Rattle.model.specs.Calls as Calls;
@@ -15,7 +17,7 @@ use model::{Answer, Header, Size};
 // What each call has room for: so many words behind the numbers of its record, for a table or a view (perform::SHOWN_WORDS, or 0 in a list
 // that has neither; perform::MOST_SHOWN at most), and so many bytes of text, for a sheet or a page.
 #[repr(C)]
-#[derive(Drop)]
+#[derive(Clone, Copy)]
 pub struct Room {
     pub shown: usize,
     pub bytes: usize,
@@ -23,7 +25,7 @@ pub struct Room {
 
 // What a run gives: 0, how many calls were made, and the header as the last one left it; DOES_NOT_FIT; or the number of a refused start.
 #[repr(C)]
-#[derive(Drop)]
+#[derive(Clone, Copy)]
 pub struct Ran {
     pub number: u64,
     pub made: usize,

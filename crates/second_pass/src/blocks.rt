@@ -86,7 +86,7 @@ pub fn closed(
 }
 
 // The line of a REPEAT that is open, which of its repetitions is run, from 1 on, and how many there are.
-#[derive(Drop)]
+#[derive(Clone, Copy)]
 pub struct Repetition {
     pub line: u64,
     pub number: u64,

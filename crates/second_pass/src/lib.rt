@@ -1,4 +1,6 @@
 // The second pass over a circuit: its lines are run.
+#![tactic(auto)]
+
 mod blocks;
 mod second;
 mod trace;

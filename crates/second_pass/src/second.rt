@@ -16,7 +16,7 @@ use model::{Answer, Header};
 use passes::{Outcome, Pass};
 
 // What the calls so far came to.
-#[derive(Drop)]
+#[derive(Clone, Copy)]
 pub struct Totals {
     pub calls: u64,
     pub merged: u64,
@@ -28,7 +28,7 @@ pub struct Totals {
 }
 
 // The pass, the sum's header, whether all but its weights is known to be sound, and what the calls came to.
-#[derive(Drop)]
+#[derive(Clone, Copy)]
 pub struct Run {
     pub pass: Pass,
     pub header: Header,
@@ -37,7 +37,7 @@ pub struct Run {
 }
 
 // What is wanted besides the sum: a line for each call; and how much of the initial weight may be lost.
-#[derive(Drop)]
+#[derive(Clone, Copy)]
 pub struct Wanted {
     pub trace: bool,
     pub most_lost: f64,
@@ -246,7 +246,7 @@ fn run_found(
 
 // The next line.
 fn run_line(
-    s: Source,
+    s: &Source,
     bytes: &mut [u8],
     stack: &mut [u64; STACK_WORDS],
     store: &mut [u64],
@@ -285,7 +285,7 @@ fn start(header: Header, known: bool) -> Run
 // The whole circuit, told whether all but the weights is known to be sound: what is left of the sum are the calls of the lines that were
 // read, made on it in order, up to the first that was refused. `stack` has the blocks that are open where it ends.
 pub fn run_all(
-    s: Source,
+    s: &Source,
     bytes: &mut [u8],
     stack: &mut [u64; STACK_WORDS],
     store: &mut [u64],

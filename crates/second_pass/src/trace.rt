@@ -1,8 +1,8 @@
 // The trace: a line for each call.
 use calls::Operation;
 use circuit::{Act, Line};
-use libc::STDOUT_FILENO;
 use model::{Answer, Channel};
+use streams::STDOUT_FILENO;
 
 pub fn write_head() -> bool {
     io::write_all(

@@ -1,6 +1,8 @@
 // The walk over stored keys for a branch that is not made yet: document 01, point 3. The full keys of the list's entries stand in an
 // array, and a table says from which place on a key can stand; the branch is its parent, changed. A list is given by the places of its
 // entries in the store: entry i stands at places[i] or, where no place is given, at place i.
+#![tactic(auto)]
+
 ghost use Rattle.std.specs.Prelude.{◌≡◌, [], min, ◌+◌, ◌*◌, ◌≤◌, ◌<◌, length, get_or, set};
 ghost use Rattle.model.specs.Entries.{entry_len, entry_of, stretch, listed};
 ghost use Rattle.model.specs.Keys.{usual_salts};
@@ -21,7 +23,7 @@ use model::{BranchMutation, Found, Size};
 // ---- what is looked for, and what is found
 
 // The entry at place `origin` of the store, changed so: its key is this.
-#[derive(Drop)]
+#[derive(Clone, Copy)]
 pub struct Sought {
     pub origin: usize,
     pub mutation: BranchMutation,
@@ -30,7 +32,7 @@ pub struct Sought {
 }
 
 // What a search finds, and how many full comparisons it made.
-#[derive(Drop)]
+#[derive(Clone, Copy)]
 pub struct Search {
     pub found: Found,
     pub compared: usize,

@@ -1,4 +1,6 @@
 // The sheet, written: document 01, point 9.
+#![tactic(auto)]
+
 ghost use Rattle.std.specs.Prelude.{◌≡◌, [], ◌∷◌, ◌++◌, map, ◌+◌, ◌*◌, ◌≤◌, length, take, drop, get_or};
 ghost use Rattle.model.specs.Lists.{groups, joined};
 ghost use Rattle.model.specs.Entries.{head_len, coefs_len, entry_len, entry_of, strip, listed};

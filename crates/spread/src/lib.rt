@@ -1,4 +1,6 @@
 // Entries scaled, and their branches merged: document 01, point 5 (noise.rs).
+#![tactic(auto)]
+
 ghost use Rattle.std.specs.Prelude.{◌≡◌, true, [], map, ◌+◌, ◌*◌, ◌<◌, ◌≤◌, length, take};
 ghost use Rattle.model.specs.Lists.{all_below};
 ghost use Rattle.model.specs.Entries.{entry_len, entry_of, stretch, listed};
@@ -22,7 +24,7 @@ use model::Size;
 
 // What the branches of an entry change, as two tables (crates/changes): for its first Pauli, and for its second or its only one; and the
 // place of an entry that they are made from.
-#[derive(Drop)]
+#[derive(Clone, Copy)]
 pub struct Tables {
     pub place: usize,
     pub first: [u64; 12],
@@ -30,7 +32,7 @@ pub struct Tables {
 }
 
 // An entry whose branches are merged: its place, and the weight it had before it was scaled.
-#[derive(Drop)]
+#[derive(Clone, Copy)]
 pub struct Parent {
     pub place: usize,
     pub weight: u64,

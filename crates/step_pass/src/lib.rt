@@ -1,5 +1,7 @@
 // The steps of trials, gathered: a channel on a qubit for each target, in the order in which the circuit runs them. `}` goes back to the line
 // after its REPEAT while repetitions are left, as in the second pass.
+#![tactic(auto)]
+
 mod tried;
 
 ghost use Rattle.std.specs.Prelude.{◌≡◌, [], ◌∷◌, ◌-◌, ◌≤◌, length, take, drop};
@@ -17,7 +19,7 @@ use second_pass::STACK_WORDS;
 pub use tried::try_cutoffs;
 
 // A step: its channel and its qubit; its line, and the instruction as the trace prints it, filled up with blanks.
-#[derive(Drop)]
+#[derive(Clone, Copy)]
 pub struct Step {
     pub channel: Channel,
     pub qubit: usize,
@@ -26,7 +28,7 @@ pub struct Step {
 }
 
 // The pass, and the steps so far: the first `count`.
-#[derive(Drop)]
+#[derive(Clone, Copy)]
 pub struct Gathered {
     pub pass: Pass,
     pub count: usize,
@@ -167,7 +169,12 @@ fn gather_found(bytes: &[u8], stack: &mut [u64; STACK_WORDS], g: Gathered) -> Ga
 }
 
 // The next line.
-fn gather_line(s: Source, bytes: &mut [u8], stack: &mut [u64; STACK_WORDS], g: Gathered) -> Gathered
+fn gather_line(
+    s: &Source,
+    bytes: &mut [u8],
+    stack: &mut [u64; STACK_WORDS],
+    g: Gathered,
+) -> Gathered
     ensures { Next LineGathers (steps_of g) (steps_of result) result.pass.outcome }
 {
     let before = g.pass;
@@ -195,7 +202,7 @@ fn start() -> Gathered
 
 // All steps of a circuit that the first pass has looked at, or up to where it has an instruction that is none, or one step too many: where the pass
 // ends with the circuit's end they are the calls of all lines that were read, those that the second pass would make.
-pub fn gather(s: Source, bytes: &mut [u8]) -> Gathered
+pub fn gather(s: &Source, bytes: &mut [u8]) -> Gathered
     ensures lines { Passed LineGathers [] (steps_of result) result.pass.outcome }
     ensures whole { result.pass.outcome ≡ Outcome.Done → WholeSteps (steps_of result) }
 {

@@ -1,4 +1,6 @@
 // The sampling table and the pick: document 01, point 7. The table's order is that of pairs of words: list place, weight bits.
+#![tactic(auto)]
+
 ghost use Rattle.std.specs.Prelude.{◌≡◌, true, map, ◌+◌, ◌*◌, ◌≤◌, length, drop};
 ghost use Rattle.model.specs.Floats.{float, zero_bits};
 ghost use Rattle.model.specs.Entries.{strip, listed};

@@ -2,6 +2,8 @@
 // `rt staticlib tableau_sum` puts into libtableau_sum.a. Each function makes one call of another crate and promises what that promises. A slice
 // is passed as a pointer and a length, the structs as C lays them out; a call takes its header and store first, then qubits, then rates. After
 // each call, the numbers it can give besides 0.
+#![tactic(auto)]
+
 ghost use Rattle.std.specs.Prelude.{◌≡◌, length, get_or, take};
 ghost use Rattle.model.specs.Channels.{one, two};
 ghost use Rattle.model.specs.Channels as Channels;

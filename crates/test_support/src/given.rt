@@ -1,7 +1,7 @@
 // Items of decimal numbers: a kind, how many values follow, and these.
 
 // A number, and the place behind it.
-#[derive(Drop)]
+#[derive(Clone, Copy)]
 pub struct Number {
     pub value: u64,
     pub at: usize,

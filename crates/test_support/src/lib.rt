@@ -1,5 +1,7 @@
 // What the programs that try calls share: reading items, printing numbers, filling slices, and telling what became of them.
-use libc::STDOUT_FILENO;
+#![tactic(auto)]
+
+use streams::STDOUT_FILENO;
 
 mod given;
 mod large;

@@ -1,4 +1,6 @@
 // Cutoffs tried before a campaign: document 02, [2]. Each trial begins with a fresh sum and makes the calls of the steps, one by one.
+#![tactic(auto)]
+
 mod steps;
 
 ghost use Rattle.std.specs.Prelude.{◌≡◌, ◌&&◌, [], ◌∷◌, ◌++◌, ◌+◌, ◌*◌, ◌-◌, ◌<◌, ◌≤◌, length, take, set};

@@ -4,8 +4,10 @@
 // the store and the header are not those that the calls leave one by one. Then the places, a line for each cutoff, and all words of the
 // entries, a line each. Of a refused call: how many words of the output and of the store are not as they were lent.
 // differential/trials_run.py has the cases, and makes both the input and what is to come out.
-use libc::STDIN_FILENO;
+#![tactic(auto)]
+
 use model::{Answer, Channel, Header, Size};
+use streams::STDIN_FILENO;
 use test_support::{CALL_WORDS, MOST_CALLS};
 
 // A case is given as an item: n, K, capacity, threshold, how many words of the store and of the output are lent, how many steps, how many cutoffs,
@@ -22,7 +24,7 @@ const LENT: u64 = 0x5555_5555_5555_5555;
 // ---- a case
 
 // What is tried, but for the cutoffs and the channels and qubits of the steps, of which there are `count`.
-#[derive(Drop)]
+#[derive(Clone, Copy)]
 struct Case {
     size: Size,
     threshold: f64,

@@ -1,5 +1,7 @@
 // The view of one entry: document 01, "A reader may look at one entry through a view of exactly that stretch". The borrow checker
 // covers no function over a struct that holds a slice, so the work is in functions on the slice and numbers.
+#![tactic(auto)]
+
 ghost use Rattle.std.specs.Prelude.{◌≡◌, ◌+◌, ◌*◌, ◌≤◌, get_or};
 ghost use Rattle.model.specs.Floats.{float};
 ghost use Rattle.model.specs.Entries.{head_len, entry_of};
@@ -10,14 +12,14 @@ ghost use Rattle.view.specs.View.{saw, seen, coef_at, row_words_at};
 use model::{Answer, Header, Size};
 
 // A view of one entry, with what the call gave: the words are exactly the entry's stretch of the lent store; of a refused call, none.
-#[derive(Drop)]
+#[derive(Clone, Copy)]
 pub struct EntryView<'a> {
     pub words: &'a [u64],
     pub answer: Answer,
 }
 
 // A coefficient: its index, and its value re + im·i.
-#[derive(Drop)]
+#[derive(Clone, Copy)]
 pub struct Coef {
     pub index: u64,
     pub re: f64,
@@ -25,7 +27,7 @@ pub struct Coef {
 }
 
 // A row: bit q of x and z is qubit q; the phase is 0 to 3.
-#[derive(Drop)]
+#[derive(Clone, Copy)]
 pub struct RowWords {
     pub x: u64,
     pub z: u64,

@@ -2,6 +2,8 @@
 // each place a line with the view's number, and what the accessors give: weight, loss, word key, phase-loss key and number of coefficients;
 // a line for each coefficient and for one that is not there; the same for the rows; and a line with the words. Floats are printed by their
 // bits. differential/view_run.py works out what is to come out.
+#![tactic(auto)]
+
 ghost use Rattle.std.specs.Prelude.{◌≡◌};
 ghost use Rattle.model.specs.Floats.{float};
 ghost use Rattle.view.specs.View.{coef_at, row_words_at};

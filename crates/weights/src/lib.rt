@@ -1,4 +1,6 @@
 // Normalise and truncate: document 01, point 4. An entry's weight has its bits in the first of the entry's words.
+#![tactic(auto)]
+
 mod calls;
 
 ghost use Rattle.std.specs.Prelude.{◌≡◌, true, map};
@@ -64,7 +66,7 @@ pub fn normalise_entries(store: &mut [u64], size: Size, count: usize) -> bool
 // ---- truncate
 
 // What truncating leaves: so many entries. The weights of those that went, added from 0 in list order.
-#[derive(Drop)]
+#[derive(Clone, Copy)]
 pub struct Cut {
     pub left: usize,
     pub taken: f64,

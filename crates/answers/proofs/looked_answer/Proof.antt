@@ -6,16 +6,19 @@ use borrow.Author.Rules.{rules}
 use Rattle.answers.proofs.looked_answer.Statement.{statement}
 use Rattle.answers.proofs.looked_answer.Tie as tie
 
-no-loss-requires : tie.Need-no-loss-requires
+no-loss-requires : tie.Need-no_loss-requires
 no-loss-requires c κs = search rules
 
-without-counts-requires : tie.Need-without-counts-requires
+without-counts-requires : tie.Need-without_counts-requires
 without-counts-requires c κs = search rules
 
 returns : tie.Need-returns
 returns c =
-    let a = c.before.before.args in
-    c.without-counts.ensures ∙ ap (λ (l : Lost). answer_of 0 a.header no_counts l a.place a.length) c.before.no-loss.ensures
+    let a = c.args in
+    c.without_counts.ensures ∙ ap (λ (l : Lost). answer_of 0 a.header no_counts l a.place a.length) c.no_loss.ensures
 
-pub looked-answer-spec : {M : Type 1} → statement M
-looked-answer-spec = tie.close (tie.spec no-loss-requires without-counts-requires returns)
+pub looked_answer_spec : {M : Type 1} → statement M
+looked_answer_spec = tie.close (tie.spec
+    no-loss-requires
+    without-counts-requires
+    returns)

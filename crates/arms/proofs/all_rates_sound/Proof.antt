@@ -12,53 +12,51 @@ use Rattle.model.proofs.Lists.{every-next, every-stop, every-end}
 use Rattle.arms.proofs.all_rates_sound.Statement.{statement}
 use Rattle.arms.proofs.all_rates_sound.Tie as tie
 
-abbrev invariant-loop : tie.invariant-loop
-invariant-loop rates i₀ i = (i ≤ 15) × (every (up_to (float one_bits)) (drop i rates) ≡ every (up_to (float one_bits)) rates)
+abbrev invariant-loop-i : tie.invariant-loop-i
+invariant-loop-i rates i₀ i = (i ≤ 15) × (every (up_to (float one_bits)) (drop i rates) ≡ every (up_to (float one_bits)) rates)
 
-abbrev decreases-loop : tie.decreases-loop
-decreases-loop rates i₀ i = 15 - i
+abbrev decreases-loop-i : tie.decreases-loop-i
+decreases-loop-i rates i₀ i = 15 - i
 
-fifteen : (c : tie.Start invariant-loop decreases-loop) → length c.args.t1 ≡ 15
-fifteen c = c.well-formed.0.1.0.1
+fifteen : (c : tie.Start invariant-loop-i decreases-loop-i) → length c.args.rates ≡ 15
+fifteen c = c.well_formed.0.1.0.1
 
-loop-holds : tie.Need-loop-init invariant-loop decreases-loop
+loop-holds : tie.Need-loop-i-init invariant-loop-i decreases-loop-i
 loop-holds c = (omega arith, refl)
 
-mul-rate-sound : tie.Need-overflow-mul-rate-sound invariant-loop decreases-loop
+mul-rate-sound : tie.Need-offset_bounds-rates-i invariant-loop-i decreases-loop-i
 mul-rate-sound c = search rules
 
-array-read-rate-sound : tie.Need-array-read-rate-sound invariant-loop decreases-loop
+array-read-rate-sound : tie.Need-bounds-rates-i invariant-loop-i decreases-loop-i
 array-read-rate-sound c = search rules
 
-rate-sound-requires : tie.Need-rate-sound-requires invariant-loop decreases-loop
+rate-sound-requires : tie.Need-rate_sound-requires invariant-loop-i decreases-loop-i
 rate-sound-requires c κs = search rules
 
-add-i : tie.Need-overflow-add-i invariant-loop decreases-loop
+add-i : tie.Need-overflow_add-i invariant-loop-i decreases-loop-i
 add-i c = search rules
 
-loop-less : tie.Need-loop-smaller invariant-loop decreases-loop
+loop-less : tie.Need-loop-i-smaller invariant-loop-i decreases-loop-i
 loop-less c = search rules
 
-loop-again : tie.Need-loop-preserved invariant-loop decreases-loop
+loop-again : tie.Need-loop-i-preserved invariant-loop-i decreases-loop-i
 loop-again c =
-    let l = c.before.before.before.loop in
-    let r = c.before.before.before.before.args.t1 in
-    (omega arith, ap (λ (k : ℕ). every (up_to (float one_bits)) (drop k r)) (add-one l.i) ∙ every-next (up_to (float one_bits)) r l.i nan (omega (arith, fifteen c.before.before.before.before)) (sym c.before.rate-sound.ensures ∙ c.if1.true) ∙ l.invariant.1)
+    let l = c.loop-i in
+    let r = c.args.rates in
+    (omega arith, ap (λ (k : ℕ). every (up_to (float one_bits)) (drop k r)) (add-one l.i) ∙ every-next (up_to (float one_bits)) r l.i nan (omega (arith, fifteen c.before.before.before.before)) (sym c.rate_sound.ensures ∙ c.if-rate_sound.true) ∙ l.invariant.1)
 
-returns : tie.Need-returns invariant-loop decreases-loop
+returns : tie.Need-returns-else-rate_sound invariant-loop-i decreases-loop-i
 returns c =
-    let l = c.before.before.before.loop in
-    sym (every-stop (up_to (float one_bits)) c.before.before.before.before.args.t1 l.i nan (omega (arith, fifteen c.before.before.before.before)) (sym c.before.rate-sound.ensures ∙ c.if1.false)) ∙ l.invariant.1
+    let l = c.loop-i in
+    sym (every-stop (up_to (float one_bits)) c.args.rates l.i nan (omega (arith, fifteen c.before.before.before.before)) (sym c.rate_sound.ensures ∙ c.if-rate_sound.false)) ∙ l.invariant.1
 
-returns-2 : tie.Need-returns-2 invariant-loop decreases-loop
-returns-2 c = sym (every-end (up_to (float one_bits)) c.before.before.args.t1 c.before.loop.i (omega (arith, fifteen c.before.before))) ∙ c.before.loop.invariant.1
+returns-2 : tie.Need-returns invariant-loop-i decreases-loop-i
+returns-2 c = sym (every-end (up_to (float one_bits)) c.args.rates c.loop-i.i (omega (arith, fifteen c.before.before))) ∙ c.loop-i.invariant.1
 
-pub all-rates-sound-spec : {M : Type 1} → statement M
-all-rates-sound-spec =
-    tie.close
-    (tie.spec
-    invariant-loop
-    decreases-loop
+pub all_rates_sound_spec : {M : Type 1} → statement M
+all_rates_sound_spec = tie.close (tie.spec
+    invariant-loop-i
+    decreases-loop-i
     loop-holds
     mul-rate-sound
     array-read-rate-sound

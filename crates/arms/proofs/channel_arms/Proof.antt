@@ -13,40 +13,38 @@ use Rattle.arms.proofs.channel_arms.Tie as tie
 of-case : {r : Arms} {c o : Channel} (q : ℕ) → c ≡ o → Stands r (one o q) → Stands r (one c q)
 of-case q e p = rw e p
 
-enum-known-channel : tie.Need-enum-known-channel
+enum-known-channel : tie.Need-enum_known-channel
 enum-known-channel c = search rules
 
-pauli-arms-requires : tie.Need-pauli-arms-requires
+pauli-arms-requires : tie.Need-pauli_arms-requires
 pauli-arms-requires c κs = search rules
 
-enum-known-channel-2 : tie.Need-enum-known-channel-2
+enum-known-channel-2 : tie.Need-enum_known-channel-in-Loss-1
 enum-known-channel-2 c = search rules
 
-loss-arms-requires : tie.Need-loss-arms-requires
+loss-arms-requires : tie.Need-loss_arms-requires
 loss-arms-requires c κs = search rules
 
-enum-known-channel-3 : tie.Need-enum-known-channel-3
+enum-known-channel-3 : tie.Need-enum_known-channel-in-Depolarizing-1
 enum-known-channel-3 c = search rules
 
-pauli-arms-requires-2 : tie.Need-pauli-arms-requires-2
+pauli-arms-requires-2 : tie.Need-pauli_arms-requires-in-Depolarizing
 pauli-arms-requires-2 c κs = search rules
 
-returns : tie.Need-returns
-returns c = of-case c.before.before.before.before.args.q c.before.before.channel.given.1 c.pauli-arms.ensures
+returns : tie.Need-returns-in-Pauli
+returns c = of-case c.args.q c.in-Pauli.is c.pauli_arms.ensures
 
-returns-2 : tie.Need-returns-2
-returns-2 c = of-case c.before.before.before.before.args.q c.before.before.channel2.given.1 c.loss-arms.ensures
+returns-2 : tie.Need-returns-in-Loss
+returns-2 c = of-case c.args.q c.in-Loss.is c.loss_arms.ensures
 
-returns-3 : tie.Need-returns-3
+returns-3 : tie.Need-returns-in-Depolarizing
 unfolding arms qubits channel_arms
 returns-3 c =
-    let r = c.pauli-arms2.ensures in
-    of-case c.before.before.before.before.args.q c.before.before.channel3.given.1 (record { few = r.few; rates = r.rates; places = r.places })
+    let r = c.pauli_arms-in-Depolarizing.ensures in
+    of-case c.args.q c.in-Depolarizing.is (record { few = r.few; rates = r.rates; places = r.places })
 
-pub channel-arms-spec : {M : Type 1} → statement M
-channel-arms-spec =
-    tie.close
-    (tie.spec
+pub channel_arms_spec : {M : Type 1} → statement M
+channel_arms_spec = tie.close (tie.spec
     enum-known-channel
     pauli-arms-requires
     enum-known-channel-2

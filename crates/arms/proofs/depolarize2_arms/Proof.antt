@@ -6,5 +6,6 @@ use Rattle.arms.proofs.depolarize2_arms.Tie as tie
 returns : tie.Need-returns
 returns c = parts-stand c.args.rate c.args.p c.args.q
 
-pub depolarize2-arms-spec : {M : Type 1} → statement M
-depolarize2-arms-spec = tie.close (tie.spec returns)
+pub depolarize2_arms_spec : {M : Type 1} → statement M
+depolarize2_arms_spec = tie.close (tie.spec
+    returns)

@@ -3,13 +3,15 @@ use Rattle.model.specs.Floats.{up_to}
 use Rattle.arms.proofs.rate_sound.Statement.{statement}
 use Rattle.arms.proofs.rate_sound.Tie as tie
 
-returns : tie.Need-returns
+returns : tie.Need-returns-then-p
 unfolding up_to
-returns c = rw c.if1.true
+returns c = rw c.if-p.true
 
-returns-2 : tie.Need-returns-2
+returns-2 : tie.Need-returns
 unfolding up_to
-returns-2 c = rw c.if1.false
+returns-2 c = rw c.if-p.false
 
-pub rate-sound-spec : {M : Type 1} → statement M
-rate-sound-spec = tie.close (tie.spec returns returns-2)
+pub rate_sound_spec : {M : Type 1} → statement M
+rate_sound_spec = tie.close (tie.spec
+    returns
+    returns-2)

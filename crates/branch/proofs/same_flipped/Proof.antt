@@ -15,85 +15,85 @@ use Rattle.branch.proofs.Same.{same_at, row_next}
 use Rattle.branch.proofs.same_flipped.Statement.{statement}
 use Rattle.branch.proofs.same_flipped.Tie as tie
 
-abbrev invariant-loop : tie.invariant-loop
-invariant-loop e p rows flips x₀ z₀ phase₀ left₀ i₀ x z phase left i =
+abbrev invariant-loop-i : tie.invariant-loop-i
+invariant-loop-i e p rows flips x₀ z₀ phase₀ left₀ i₀ x z phase left i =
     (i ≤ rows)
     × ((m : BranchMutation) → flips ≡ flip_bits m p 0 rows
     → (left ≡ flip_bits m p i (rows - i)) × (eqb (bit_or (bit_or x z) phase) 0 ≡ all_below (same_at e p rows m) (3 * i)))
 
-abbrev decreases-loop : tie.decreases-loop
-decreases-loop e p rows flips x₀ z₀ phase₀ left₀ i₀ x z phase left i = rows - i
+abbrev decreases-loop-i : tie.decreases-loop-i
+decreases-loop-i e p rows flips x₀ z₀ phase₀ left₀ i₀ x z phase left i = rows - i
 
-loop-holds : tie.Need-loop-init invariant-loop decreases-loop
+loop-holds : tie.Need-loop-i-init invariant-loop-i decreases-loop-i
 loop-holds c =
     let a = c.args in
     (omega arith, λ m q. (q ∙ ap (flip_bits m a.p.now 0) (sym (sub-zero a.rows)), sym (all_none (same_at a.e.now a.p.now a.rows m))))
 
-mul_at : tie.Need-overflow-mul-at invariant-loop decreases-loop
+mul_at : tie.Need-overflow_mul-at invariant-loop-i decreases-loop-i
 mul_at c = omega arith
 
-mul-x : tie.Need-overflow-mul-x invariant-loop decreases-loop
+mul-x : tie.Need-offset_bounds-e-at invariant-loop-i decreases-loop-i
 mul-x c = omega arith
 
-shared-slice-read-x : tie.Need-shared-slice-read-x invariant-loop decreases-loop
+shared-slice-read-x : tie.Need-bounds-e-at invariant-loop-i decreases-loop-i
 shared-slice-read-x c = omega arith
 
-mul-x-2 : tie.Need-overflow-mul-x-2 invariant-loop decreases-loop
+mul-x-2 : tie.Need-offset_bounds-p-at invariant-loop-i decreases-loop-i
 mul-x-2 c = omega arith
 
-shared-slice-read-x-2 : tie.Need-shared-slice-read-x-2 invariant-loop decreases-loop
+shared-slice-read-x-2 : tie.Need-bounds-p-at invariant-loop-i decreases-loop-i
 shared-slice-read-x-2 c = omega arith
 
-add-z : tie.Need-overflow-add-z invariant-loop decreases-loop
+add-z : tie.Need-overflow_add-z invariant-loop-i decreases-loop-i
 add-z c = omega arith
 
-mul-z : tie.Need-overflow-mul-z invariant-loop decreases-loop
+mul-z : tie.Need-offset_bounds-e-at-in-loop-i invariant-loop-i decreases-loop-i
 mul-z c = omega arith
 
-shared-slice-read-z : tie.Need-shared-slice-read-z invariant-loop decreases-loop
+shared-slice-read-z : tie.Need-bounds-e-at-in-loop-i invariant-loop-i decreases-loop-i
 shared-slice-read-z c = omega arith
 
-add-z-2 : tie.Need-overflow-add-z-2 invariant-loop decreases-loop
+add-z-2 : tie.Need-overflow_add-z-in-loop-i invariant-loop-i decreases-loop-i
 add-z-2 c = omega arith
 
-mul-z-2 : tie.Need-overflow-mul-z-2 invariant-loop decreases-loop
+mul-z-2 : tie.Need-offset_bounds-p-at-in-loop-i invariant-loop-i decreases-loop-i
 mul-z-2 c = omega arith
 
-shared-slice-read-z-2 : tie.Need-shared-slice-read-z-2 invariant-loop decreases-loop
+shared-slice-read-z-2 : tie.Need-bounds-p-at-in-loop-i invariant-loop-i decreases-loop-i
 shared-slice-read-z-2 c = omega arith
 
-add-phase : tie.Need-overflow-add-phase invariant-loop decreases-loop
+add-phase : tie.Need-overflow_add-phase invariant-loop-i decreases-loop-i
 add-phase c = omega arith
 
-mul-phase : tie.Need-overflow-mul-phase invariant-loop decreases-loop
+mul-phase : tie.Need-offset_bounds-e-at-in-loop-i-2 invariant-loop-i decreases-loop-i
 mul-phase c = omega arith
 
-shared-slice-read-phase : tie.Need-shared-slice-read-phase invariant-loop decreases-loop
+shared-slice-read-phase : tie.Need-bounds-e-at-in-loop-i-2 invariant-loop-i decreases-loop-i
 shared-slice-read-phase c = omega arith
 
-add-phase-2 : tie.Need-overflow-add-phase-2 invariant-loop decreases-loop
+add-phase-2 : tie.Need-overflow_add-phase-in-loop-i invariant-loop-i decreases-loop-i
 add-phase-2 c = omega arith
 
-mul-phase-2 : tie.Need-overflow-mul-phase-2 invariant-loop decreases-loop
+mul-phase-2 : tie.Need-offset_bounds-p-at-in-loop-i-2 invariant-loop-i decreases-loop-i
 mul-phase-2 c = omega arith
 
-shared-slice-read-phase-2 : tie.Need-shared-slice-read-phase-2 invariant-loop decreases-loop
+shared-slice-read-phase-2 : tie.Need-bounds-p-at-in-loop-i-2 invariant-loop-i decreases-loop-i
 shared-slice-read-phase-2 c = omega arith
 
-mul-phase-3 : tie.Need-overflow-mul-phase-3 invariant-loop decreases-loop
+mul-phase-3 : tie.Need-overflow_mul-phase invariant-loop-i decreases-loop-i
 mul-phase-3 c = omega arith
 
-add-i : tie.Need-overflow-add-i invariant-loop decreases-loop
+add-i : tie.Need-overflow_add-i invariant-loop-i decreases-loop-i
 add-i c = omega arith
 
-loop-less : tie.Need-loop-smaller invariant-loop decreases-loop
+loop-less : tie.Need-loop-i-smaller invariant-loop-i decreases-loop-i
 loop-less c = omega arith
 
-loop-again : tie.Need-loop-preserved invariant-loop decreases-loop
+loop-again : tie.Need-loop-i-preserved invariant-loop-i decreases-loop-i
 loop-again c =
-    let w = c.before.before.before.before.before.before.before in
-    let l = w.loop in
-    let a = w.before.args in (
+    let w = c in
+    let l = w.loop-i in
+    let a = w.args in (
       omega arith,
       λ m q.
           let left = (l.invariant.1 m q).0 in (
@@ -103,19 +103,17 @@ loop-again c =
           ),
     )
 
-returns : tie.Need-returns invariant-loop decreases-loop
+returns : tie.Need-returns invariant-loop-i decreases-loop-i
 returns c =
-    let l = c.before.loop in
-    let a = c.before.before.args in
+    let l = c.loop-i in
+    let a = c.args in
     let e : l.i ≡ a.rows = omega arith in
     λ m q. (l.invariant.1 m q).1 ∙ ap (λ (i : ℕ). all_below (same_at a.e.now a.p.now a.rows m) (3 * i)) e
 
-pub same-flipped-spec : {M : Type 1} → statement M
-same-flipped-spec =
-    tie.close
-    (tie.spec
-    invariant-loop
-    decreases-loop
+pub same_flipped_spec : {M : Type 1} → statement M
+same_flipped_spec = tie.close (tie.spec
+    invariant-loop-i
+    decreases-loop-i
     loop-holds
     mul_at
     mul-x

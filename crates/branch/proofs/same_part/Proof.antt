@@ -9,21 +9,25 @@ use borrow.Author.Rules.{rules}
 use Rattle.branch.proofs.same_part.Statement.{statement}
 use Rattle.branch.proofs.same_part.Tie as tie
 
-same-words-requires : tie.Need-same-words-requires
+same-words-requires : tie.Need-same_words-requires
 same-words-requires c κs = search rules
 
-returns : tie.Need-returns
+returns : tie.Need-returns-then-flips-eq0
 returns c =
-    let start = c.before.before.before.before in
+    let start = c in
     let a = start.args in
-    λ m q. c.same-words.ensures
-    ∙ ap₂ (λ (l : List ℕ) (k : ℕ). all_below (same_word a.e.now l) k) (sym (rows-unflipped m a.rows a.p.now (sym q ∙ c.before.if1.true) start.requires.2)) start.requires.2
+    λ m q. c.same_words.ensures
+    ∙ ap₂ (λ (l : List ℕ) (k : ℕ). all_below (same_word a.e.now l) k) (sym (rows-unflipped m a.rows a.p.now (sym q ∙ c.if-flips-eq0.true) start.requires.2)) start.requires.2
 
-same-flipped-requires : tie.Need-same-flipped-requires
+same-flipped-requires : tie.Need-same_flipped-requires
 same-flipped-requires c κs = search rules
 
-returns-2 : tie.Need-returns-2
+returns-2 : tie.Need-returns
 returns-2 c = search rules
 
-pub same-part-spec : {M : Type 1} → statement M
-same-part-spec = tie.close (tie.spec same-words-requires returns same-flipped-requires returns-2)
+pub same_part_spec : {M : Type 1} → statement M
+same_part_spec = tie.close (tie.spec
+    same-words-requires
+    returns
+    same-flipped-requires
+    returns-2)

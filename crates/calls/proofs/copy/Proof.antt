@@ -11,61 +11,59 @@ use Rattle.calls.proofs.Copies.{copied-short, copied-long}
 use Rattle.calls.proofs.copy.Statement.{statement}
 use Rattle.calls.proofs.copy.Tie as tie
 
-abbrev store : tie.Else1 → List ℕ
-store c = c.before.before.before.args.store.now
+abbrev store : tie.Else-scratch-n → List ℕ
+store c = c.args.store.now
 
-abbrev scratch : tie.Else1 → List ℕ
-scratch c = c.before.before.before.args.scratch.now
+abbrev scratch : tie.Else-scratch-n → List ℕ
+scratch c = c.args.scratch.now
 
 -- the front is as long as the store
-front : (c : tie.Else1) → length (take (length (store c)) (scratch c)) ≡ length (store c)
-front c = length-take-le (length (store c)) (scratch c) c.if1.false
+front : (c : tie.Else-scratch-n) → length (take (length (store c)) (scratch c)) ≡ length (store c)
+front c = length-take-le (length (store c)) (scratch c) c.if-scratch-n.false
 
-returns : tie.Need-returns
-returns c = copied-short _ _ c.if1.true
+returns : tie.Need-returns-then-scratch-n
+returns c = copied-short _ _ c.if-scratch-n.true
 
-slice-relend-prefix-copy-words : tie.Need-slice-relend-prefix-copy-words
+slice-relend-prefix-copy-words : tie.Need-slice_bounds-copy_words-end
 slice-relend-prefix-copy-words c = search rules
 
-slice-aggregate-copy-words : tie.Need-slice-aggregate-copy-words
+slice-aggregate-copy-words : tie.Need-slice_bounds-copy_words-end-2
 slice-aggregate-copy-words c = sym (front c.before)
 
-copy-words-requires : tie.Need-copy-words-requires
+copy-words-requires : tie.Need-copy_words-requires
 copy-words-requires c κs = front c.before
 
-mul-clear : tie.Need-overflow-mul-clear
+mul-clear : tie.Need-offset_bounds-scratch-n
 mul-clear c = search rules
 
-sub-clear : tie.Need-overflow-sub-clear
+sub-clear : tie.Need-slice_bounds-clear-count
 sub-clear c = search rules
 
-part-clear-start : tie.Need-slice-bounds-clear-start
+part-clear-start : tie.Need-slice_bounds-clear-start
 part-clear-start c = search rules
 
-part-clear-end : tie.Need-slice-bounds-clear-end
+part-clear-end : tie.Need-slice_bounds-clear-end
 part-clear-end c = search rules
 
 clear-requires : tie.Need-clear-requires
 clear-requires c κs = search rules
 
-same_length : tie.Need-same-length
+same_length : tie.Need-shape_of-scratch
 same_length c = search rules
 
-returns-2 : tie.Need-returns-2
+returns-2 : tie.Need-returns
 unfolding laid
 returns-2 c =
-    let w = c.before.before.before.before.before.before in
-    let e = w.before.before in
-    let n = length (store e) in
-    let long = ap length w.copy-words.ensures in
-    both-put n (scratch e) w.copy-words.new.0 long w.copy-words.ensures
-    (c.before.before.clear.ensures ∙ ap (λ (m : ℕ). replicate m 0) (rest-long n (scratch e) w.copy-words.new.0 long))
-    ∙ copied-long (store e) (scratch e) e.if1.false
+    let w = c in
+    let e = w in
+    let n = length (store e.before.before.before.before.before.before.before.before) in
+    let long = ap length w.copy_words.ensures in
+    both-put n (scratch e.before.before.before.before.before.before.before.before) w.copy_words.new.to long w.copy_words.ensures
+    (c.clear.ensures ∙ ap (λ (m : ℕ). replicate m 0) (rest-long n (scratch e.before.before.before.before.before.before.before.before) w.copy_words.new.to long))
+    ∙ copied-long (store e.before.before.before.before.before.before.before.before) (scratch e.before.before.before.before.before.before.before.before) e.if-scratch-n.false
 
 pub copy_spec : {M : Type 1} → statement M
-copy_spec =
-    tie.close
-    (tie.spec
+copy_spec = tie.close (tie.spec
     returns
     slice-relend-prefix-copy-words
     slice-aggregate-copy-words

@@ -5,74 +5,72 @@ use borrow.Author.Rules.{rules}
 use Rattle.changes.proofs.change_at.Statement.{statement}
 use Rattle.changes.proofs.change_at.Tie as tie
 
-add-i : tie.Need-overflow-add-i
+add-i : tie.Need-overflow_add-i
 add-i c = search rules
 
-mul-i : tie.Need-overflow-mul-i
+mul-i : tie.Need-overflow_mul-i
 mul-i c = search rules
 
-add-j : tie.Need-overflow-add-j
+add-j : tie.Need-overflow_add-j
 add-j c = search rules
 
-mul-j : tie.Need-overflow-mul-j
+mul-j : tie.Need-overflow_mul-j
 mul-j c = search rules
 
-mul-t6 : tie.Need-overflow-mul-t6
+mul-t6 : tie.Need-offset_bounds-first-i
 mul-t6 c = search rules
 
-element-copy-out-t10 : tie.Need-element-copy-out-t10
+element-copy-out-t10 : tie.Need-bounds-first-i
 element-copy-out-t10 c = search rules
 
-mul-t7 : tie.Need-overflow-mul-t7
+mul-t7 : tie.Need-offset_bounds-second-j
 mul-t7 c = search rules
 
-element-copy-out-t13 : tie.Need-element-copy-out-t13
+element-copy-out-t13 : tie.Need-bounds-second-j
 element-copy-out-t13 c = search rules
 
-add-t15 : tie.Need-overflow-add-t15
+add-t15 : tie.Need-overflow_add-result
 add-t15 c = search rules
 
-mul-t16 : tie.Need-overflow-mul-t16
+mul-t16 : tie.Need-offset_bounds-first-i-2
 mul-t16 c = search rules
 
-element-copy-out-t19 : tie.Need-element-copy-out-t19
+element-copy-out-t19 : tie.Need-bounds-first-i-2
 element-copy-out-t19 c = search rules
 
-add-t20 : tie.Need-overflow-add-t20
+add-t20 : tie.Need-overflow_add-result-2
 add-t20 c = search rules
 
-mul-t21 : tie.Need-overflow-mul-t21
+mul-t21 : tie.Need-offset_bounds-second-j-2
 mul-t21 c = search rules
 
-element-copy-out-t24 : tie.Need-element-copy-out-t24
+element-copy-out-t24 : tie.Need-bounds-second-j-2
 element-copy-out-t24 c = search rules
 
-add-t26 : tie.Need-overflow-add-t26
+add-t26 : tie.Need-overflow_add-result-3
 add-t26 c = search rules
 
-mul-t27 : tie.Need-overflow-mul-t27
+mul-t27 : tie.Need-offset_bounds-first-i-3
 mul-t27 c = search rules
 
-element-copy-out-t30 : tie.Need-element-copy-out-t30
+element-copy-out-t30 : tie.Need-bounds-first-i-3
 element-copy-out-t30 c = search rules
 
-add-t31 : tie.Need-overflow-add-t31
+add-t31 : tie.Need-overflow_add-result-4
 add-t31 c = search rules
 
-mul-t32 : tie.Need-overflow-mul-t32
+mul-t32 : tie.Need-offset_bounds-second-j-3
 mul-t32 c = search rules
 
-element-copy-out-t35 : tie.Need-element-copy-out-t35
+element-copy-out-t35 : tie.Need-bounds-second-j-3
 element-copy-out-t35 c = search rules
 
 returns : tie.Need-returns
 unfolding change_at both_change change_in
 returns c = refl
 
-pub change-at-spec : {M : Type 1} → statement M
-change-at-spec =
-    tie.close
-    (tie.spec
+pub change_at_spec : {M : Type 1} → statement M
+change_at_spec = tie.close (tie.spec
     add-i
     mul-i
     add-j

@@ -7,16 +7,19 @@ use borrow.Author.Rules.{rules}
 use Rattle.changes.proofs.loss_change.Statement.{statement}
 use Rattle.changes.proofs.loss_change.Tie as tie
 
-usual-salts-requires : tie.Need-usual-salts-requires
+usual-salts-requires : tie.Need-usual_salts-requires
 usual-salts-requires c κs = search rules
 
-loss-mask-requires : tie.Need-loss-mask-requires
+loss-mask-requires : tie.Need-loss_mask-requires
 loss-mask-requires c κs = search rules
 
 returns : tie.Need-returns
 returns c =
     ap (λ (d : ℕ). record { delta = d; low = 0; high = 0 })
-    (c.loss-mask.ensures ∙ ap (λ (s : Salts). row_mask c.before.before.args.q s.loss) c.before.usual-salts.ensures)
+    (c.loss_mask.ensures ∙ ap (λ (s : Salts). row_mask c.args.q s.loss) c.usual_salts.ensures)
 
-pub loss-change-spec : {M : Type 1} → statement M
-loss-change-spec = tie.close (tie.spec usual-salts-requires loss-mask-requires returns)
+pub loss_change_spec : {M : Type 1} → statement M
+loss_change_spec = tie.close (tie.spec
+    usual-salts-requires
+    loss-mask-requires
+    returns)

@@ -10,57 +10,55 @@ use borrow.Author.Rules.{rules}
 use Rattle.changes.proofs.second_table.Statement.{statement}
 use Rattle.changes.proofs.second_table.Tie as tie
 
-enum-known-shape : tie.Need-enum-known-shape
+enum-known-shape : tie.Need-enum_known-shape
 enum-known-shape c = search rules
 
-change-table-requires : tie.Need-change-table-requires
+change-table-requires : tie.Need-change_table-requires
 change-table-requires c κs =
-    let s = c.before.before.before.before in
-    (subst (ShapeBelow 64) c.before.shape.given.1 s.requires.2, s.requires.0, s.requires.1)
+    let s = c in
+    (subst (ShapeBelow 64) c.in-One.is s.requires.2, s.requires.0, s.requires.1)
 
-enum-known-shape-2 : tie.Need-enum-known-shape-2
+enum-known-shape-2 : tie.Need-enum_known-shape-in-Lose-1
 enum-known-shape-2 c = search rules
 
-loss-change-requires : tie.Need-loss-change-requires
+loss-change-requires : tie.Need-loss_change-loss-requires
 loss-change-requires c κs = search rules
 
-enum-known-shape-3 : tie.Need-enum-known-shape-3
+enum-known-shape-3 : tie.Need-enum_known-shape-in-Two-1
 enum-known-shape-3 c = search rules
 
-change-table-requires-2 : tie.Need-change-table-requires-2
+change-table-requires-2 : tie.Need-change_table-requires-in-Two
 change-table-requires-2 c κs =
-    let s = c.before.before.before.before in
-    ((subst (ShapeBelow 64) c.before.shape3.given.1 s.requires.2).1, s.requires.0, s.requires.1)
+    let s = c in
+    ((subst (ShapeBelow 64) c.in-Two.is s.requires.2).1, s.requires.0, s.requires.1)
 
-returns : tie.Need-returns
+returns : tie.Need-returns-in-One
 unfolding second_table walked_rows
 returns c =
-    let s = c.before.before.before.before.before in
+    let s = c in
     let a = s.args in
-    let e = c.before.before.shape.given.1 in
-    c.change-table.ensures usual_salts (subst (λ (h : Shape). SignMasks usual_salts (walked_rows h a.n) a.masks.now) e s.requires.3)
+    let e = c.in-One.is in
+    c.change_table.ensures usual_salts (subst (λ (h : Shape). SignMasks usual_salts (walked_rows h a.n) a.masks.now) e s.requires.3)
     ∙ sym (ap (λ (h : Shape). second_table h a.n a.rows.now) e)
 
-returns-2 : tie.Need-returns-2
+returns-2 : tie.Need-returns-in-Lose
 unfolding second_table
 returns-2 c =
-    let a = c.before.before.before.before.before.args in
-    ap (λ (d : Change). four (record { delta = d.delta; low = 0; high = 0 })) c.loss-change.ensures
-    ∙ sym (ap (λ (h : Shape). second_table h a.n a.rows.now) c.before.before.shape2.given.1)
+    let a = c.args in
+    ap (λ (d : Change). four (record { delta = d.delta; low = 0; high = 0 })) c.loss_change-loss.ensures
+    ∙ sym (ap (λ (h : Shape). second_table h a.n a.rows.now) c.in-Lose.is)
 
-returns-3 : tie.Need-returns-3
+returns-3 : tie.Need-returns-in-Two
 unfolding second_table walked_rows
 returns-3 c =
-    let s = c.before.before.before.before.before in
+    let s = c in
     let a = s.args in
-    let e = c.before.before.shape3.given.1 in
-    c.change-table2.ensures usual_salts (subst (λ (h : Shape). SignMasks usual_salts (walked_rows h a.n) a.masks.now) e s.requires.3)
+    let e = c.in-Two.is in
+    c.change_table-in-Two.ensures usual_salts (subst (λ (h : Shape). SignMasks usual_salts (walked_rows h a.n) a.masks.now) e s.requires.3)
     ∙ sym (ap (λ (h : Shape). second_table h a.n a.rows.now) e)
 
-pub second-table-spec : {M : Type 1} → statement M
-second-table-spec =
-    tie.close
-    (tie.spec
+pub second_table_spec : {M : Type 1} → statement M
+second_table_spec = tie.close (tie.spec
     enum-known-shape
     change-table-requires
     enum-known-shape-2

@@ -8,45 +8,43 @@ use Rattle.changes.proofs.ChangeTables.{masks-none, masks-more}
 use Rattle.changes.proofs.sign_masks.Statement.{statement}
 use Rattle.changes.proofs.sign_masks.Tie as tie
 
-abbrev invariant-loop : tie.invariant-loop
-invariant-loop salts m masks₀ i₀ masks i = (i ≤ m) × SignMasks salts i masks
+abbrev invariant-loop-i : tie.invariant-loop-i
+invariant-loop-i salts m masks₀ i₀ masks i = (i ≤ m) × SignMasks salts i masks
 
-abbrev decreases-loop : tie.decreases-loop
-decreases-loop salts m masks₀ i₀ masks i = m - i
+abbrev decreases-loop-i : tie.decreases-loop-i
+decreases-loop-i salts m masks₀ i₀ masks i = m - i
 
-loop-holds : tie.Need-loop-init invariant-loop decreases-loop
+loop-holds : tie.Need-loop-i-init invariant-loop-i decreases-loop-i
 loop-holds c = (omega arith, masks-none _ _ refl)
 
-sign-mask-requires : tie.Need-sign-mask-requires invariant-loop decreases-loop
+sign-mask-requires : tie.Need-sign_mask-requires invariant-loop-i decreases-loop-i
 sign-mask-requires c κs = search rules
 
-mul-masks : tie.Need-overflow-mul-masks invariant-loop decreases-loop
+mul-masks : tie.Need-offset_bounds-masks-i invariant-loop-i decreases-loop-i
 mul-masks c = omega arith
 
-array-write-masks : tie.Need-array-write-masks invariant-loop decreases-loop
+array-write-masks : tie.Need-bounds-masks-i invariant-loop-i decreases-loop-i
 array-write-masks c = omega arith
 
-add-i : tie.Need-overflow-add-i invariant-loop decreases-loop
+add-i : tie.Need-overflow_add-i invariant-loop-i decreases-loop-i
 add-i c = omega arith
 
-loop-less : tie.Need-loop-smaller invariant-loop decreases-loop
+loop-less : tie.Need-loop-i-smaller invariant-loop-i decreases-loop-i
 loop-less c = omega arith
 
-loop-again : tie.Need-loop-preserved invariant-loop decreases-loop
-loop-again c = let l = c.before.before.loop in (omega arith, masks-more _ l.i (omega arith) c.sign_mask.ensures l.invariant.1)
+loop-again : tie.Need-loop-i-preserved invariant-loop-i decreases-loop-i
+loop-again c = let l = c.loop-i in (omega arith, masks-more _ l.i (omega arith) c.sign_mask.ensures l.invariant.1)
 
-returns : tie.Need-returns invariant-loop decreases-loop
+returns : tie.Need-returns invariant-loop-i decreases-loop-i
 returns c =
-    let l = c.before.loop in
-    let e : l.i ≡ c.before.before.args.m = omega arith in
+    let l = c.loop-i in
+    let e : l.i ≡ c.args.m = omega arith in
     rw e at l.invariant.1
 
-pub sign-masks-spec : {M : Type 1} → statement M
-sign-masks-spec =
-    tie.close
-    (tie.spec
-    invariant-loop
-    decreases-loop
+pub sign_masks_spec : {M : Type 1} → statement M
+sign_masks_spec = tie.close (tie.spec
+    invariant-loop-i
+    decreases-loop-i
     loop-holds
     sign-mask-requires
     mul-masks

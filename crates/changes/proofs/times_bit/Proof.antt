@@ -4,11 +4,13 @@ use Rattle.changes.proofs.ChangeTables.{if_set-times, times-le}
 use Rattle.changes.proofs.times_bit.Statement.{statement}
 use Rattle.changes.proofs.times_bit.Tie as tie
 
-mul-result : tie.Need-overflow-mul-result
+mul-result : tie.Need-overflow_mul-result
 mul-result c = omega (arith, times-le c.args.b c.args.m c.requires)
 
 returns : tie.Need-returns
 returns c = if_set-times _ _ c.requires
 
-pub times-bit-spec : {M : Type 1} → statement M
-times-bit-spec = tie.close (tie.spec mul-result returns)
+pub times_bit_spec : {M : Type 1} → statement M
+times_bit_spec = tie.close (tie.spec
+    mul-result
+    returns)

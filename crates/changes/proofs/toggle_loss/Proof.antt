@@ -9,11 +9,13 @@ use borrow.Author.Rules.{rules}
 use Rattle.changes.proofs.toggle_loss.Statement.{statement}
 use Rattle.changes.proofs.toggle_loss.Tie as tie
 
-shl-result : tie.Need-overflow-shl-result
+shl-result : tie.Need-overflow_shl-result
 shl-result c = search rules
 
 returns : tie.Need-returns
 returns c = ap (bit_xor c.args.loss) (shl_exact 1 c.args.q 64 (omega arith) (omega arith) ∙ one-mul (2 ^ c.args.q))
 
-pub toggle-loss-spec : {M : Type 1} → statement M
-toggle-loss-spec = tie.close (tie.spec shl-result returns)
+pub toggle_loss_spec : {M : Type 1} → statement M
+toggle_loss_spec = tie.close (tie.spec
+    shl-result
+    returns)

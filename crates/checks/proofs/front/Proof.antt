@@ -10,35 +10,33 @@ use Rattle.checks.proofs.front.Tie as tie
 abbrev given : tie.Start → Lent
 given c = held c.args.h c.args.store.now
 
-shape-sound : (c : tie.Else1) → first_of (shape (given c.before.before.before)) ≡ 0
-shape-sound c = sym c.before.shape-number.ensures ∙ c.if1.false
+shape-sound : (c : tie.Else-number-ne0) → first_of (shape (given c.before.before.before)) ≡ 0
+shape-sound c = sym c.shape_number-number.ensures ∙ c.if-number-ne0.false
 
-shape-number-requires : tie.Need-shape-number-requires
+shape-number-requires : tie.Need-shape_number-number-requires
 shape-number-requires c κs = search rules
 
-returns : tie.Need-returns
-returns c = front-shape _ (given c.before.before.before) _ c.before.shape-number.ensures c.if1.true
+returns : tie.Need-returns-then-number-ne0
+returns c = front-shape _ (given c.before.before.before) _ c.shape_number-number.ensures c.if-number-ne0.true
 
-returns-2 : tie.Need-returns-2
-returns-2 c = front-own _ (given c.before.before.before.before) (shape-sound c.before) c.if2.true
+returns-2 : tie.Need-returns-then-own-ne0
+returns-2 c = front-own _ (given c.before.before.before.before) (shape-sound c.before) c.if-own-ne0.true
 
-words-sound-requires : tie.Need-words-sound-requires
-words-sound-requires c κs = (shape-sound c.before, c.before.before.before.before.requires)
+words-sound-requires : tie.Need-words_sound-requires
+words-sound-requires c κs = (shape-sound c.before, c.requires)
 
-returns-3 : tie.Need-returns-3
+returns-3 : tie.Need-returns-then-words_sound
 returns-3 c =
-    let e = c.before.before in
-    front-words _ (given e.before.before.before.before) (shape-sound e.before) e.if2.false (sym c.if3.true ∙ c.before.words-sound.ensures)
+    let e = c in
+    front-words _ (given e.before.before.before.before.before.before) (shape-sound e.before.before.before) e.if-own-ne0.false (sym c.if-words_sound.true ∙ c.words_sound.ensures)
 
-returns-4 : tie.Need-returns-4
+returns-4 : tie.Need-returns
 returns-4 c =
-    let e = c.before.before in
-    front-words _ (given e.before.before.before.before) (shape-sound e.before) e.if2.false (sym c.if3.false ∙ c.before.words-sound.ensures)
+    let e = c in
+    front-words _ (given e.before.before.before.before.before.before) (shape-sound e.before.before.before) e.if-own-ne0.false (sym c.if-words_sound.false ∙ c.words_sound.ensures)
 
-pub front-spec : {M : Type 1} → statement M
-front-spec =
-    tie.close
-    (tie.spec
+pub front_spec : {M : Type 1} → statement M
+front_spec = tie.close (tie.spec
     shape-number-requires
     returns
     returns-2

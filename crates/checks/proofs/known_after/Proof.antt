@@ -6,11 +6,13 @@ use borrow.Author.Rules.{rules}
 use Rattle.checks.proofs.known_after.Statement.{statement}
 use Rattle.checks.proofs.known_after.Tie as tie
 
-returns : tie.Need-returns
+returns : tie.Need-returns-then-known
 returns c = search rules
 
-returns-2 : tie.Need-returns-2
-returns-2 c = sym (ap (λ (b : Bool). b || eqb c.before.args.number 0) c.if1.false)
+returns-2 : tie.Need-returns
+returns-2 c = sym (ap (λ (b : Bool). b || eqb c.args.number 0) c.if-known.false)
 
-pub known-after-spec : {M : Type 1} → statement M
-known-after-spec = tie.close (tie.spec returns returns-2)
+pub known_after_spec : {M : Type 1} → statement M
+known_after_spec = tie.close (tie.spec
+    returns
+    returns-2)

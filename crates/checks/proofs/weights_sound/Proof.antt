@@ -3,14 +3,14 @@
 use mathlib.Core.Path.{◌≡◌, refl, sym, ap, ◌∙◌}
 use mathlib.Core.Bool.{Bool}
 use mathlib.Core.List.{List, [], map}
-use Prim.Native.Nat.{ℕ, ◌+◌, ◌*◌, ◌-◌, ◌<◌, ◌≤◌}
+use Prim.Native.Nat.{ℕ, ◌*◌, ◌-◌, ◌<◌, ◌≤◌}
 use native.Mathlib.Numerals.{add-one}
-use lib.ListN.{length, take, drop, get_or}
+use lib.ListN.{length, drop, get_or}
 use lib.Seq.{get_or-take, get_or-drop}
 use native.Mathlib.Omega.{arith}
 use borrow.Author.Rules.{rules}
 use Rattle.model.specs.Lists.{every}
-use Rattle.model.specs.Entries.{Entry, strip, listed, entry_len, entry_of, stretch}
+use Rattle.model.specs.Entries.{Entry, strip, listed, entry_len, entry_of}
 use Rattle.model.specs.Numbers.{weight_sound, weights_sound}
 use Rattle.model.specs.declared.Size.{Size}
 use Rattle.model.proofs.Lists.{every-next, every-stop, every-end}
@@ -37,82 +37,80 @@ weight-word s count len i w e h =
     ∙ sym (get_or-take (entry_len s) (drop (i * entry_len s) w) 0 0 (omega arith) ∙ get_or-drop (i * entry_len s) w 0 0)
     ∙ ap (λ (x : Entry). x.weight) (sym (stripped-at s count i w (nothing s) h))
 
-abbrev invariant-loop : tie.invariant-loop
-invariant-loop store count len i₀ i = (i ≤ count) × ((s : Size) → len ≡ entry_len s → every fine (drop i (stripped s count store)) ≡ weights_sound (stripped s count store))
+abbrev invariant-loop-i : tie.invariant-loop-i
+invariant-loop-i store count len i₀ i = (i ≤ count) × ((s : Size) → len ≡ entry_len s → every fine (drop i (stripped s count store)) ≡ weights_sound (stripped s count store))
 
-abbrev decreases-loop : tie.decreases-loop
-decreases-loop store count len i₀ i = count - i
+abbrev decreases-loop-i : tie.decreases-loop-i
+decreases-loop-i store count len i₀ i = count - i
 
 -- the weight's place is within the store
-within : (c : tie.In-loop invariant-loop decreases-loop) → c.before.loop.i * c.before.before.entry-len.result < length c.before.before.before.before.args.store.now
+within : (c : tie.In-loop-i invariant-loop-i decreases-loop-i) → c.loop-i.i * c.entry_len-len.result < length c.args.store.now
 within c =
-    rw c.before.before.entry-len.ensures
-    (omega (arith, stride-le (entry_len c.before.before.before.before.args.size) c.before.loop.i _ c.loop-test.true, c.before.before.before.before.requires.1))
+    rw c.entry_len-len.ensures
+    (omega (arith, stride-le (entry_len c.args.size) c.loop-i.i _ c.loop-i-test.true, c.requires.1))
 
-there : (c : tie.In-loop invariant-loop decreases-loop) (s : Size) → c.before.loop.i < length (stripped s c.before.before.before.before.args.count c.before.before.before.before.args.store.now)
-there c s = rw (length-stripped s c.before.before.before.before.args.count c.before.before.before.before.args.store.now) c.loop-test.true
+there : (c : tie.In-loop-i invariant-loop-i decreases-loop-i) (s : Size) → c.loop-i.i < length (stripped s c.args.count c.args.store.now)
+there c s = rw (length-stripped s c.args.count c.args.store.now) c.loop-i-test.true
 
 -- what was found of the entry there
-judged : (c : tie.After-weight-sound invariant-loop decreases-loop) (s : Size) → c.before.before.before.before.entry-len.result ≡ entry_len s
-    → c.weight-sound.result ≡ fine (get_or (stripped s c.before.before.before.before.before.before.args.count c.before.before.before.before.before.before.args.store.now) c.before.before.before.loop.i (nothing s))
+judged : (c : tie.After-weight_sound invariant-loop-i decreases-loop-i) (s : Size) → c.entry_len-len.result ≡ entry_len s
+    → c.weight_sound.result ≡ fine (get_or (stripped s c.args.count c.args.store.now) c.loop-i.i (nothing s))
 judged c s e =
-    let a = c.before.before.before.before.before.before.args in
-    c.weight-sound.ensures ∙ ap weight_sound (weight-word s a.count _ c.before.before.before.loop.i a.store.now e c.before.before.loop-test.true)
+    let a = c.args in
+    c.weight_sound.ensures ∙ ap weight_sound (weight-word s a.count _ c.loop-i.i a.store.now e c.loop-i-test.true)
 
-entry-len-requires : tie.Need-entry-len-requires invariant-loop decreases-loop
-entry-len-requires c κs = c.before.requires.0
+entry-len-requires : tie.Need-entry_len-len-requires invariant-loop-i decreases-loop-i
+entry-len-requires c κs = c.requires.0
 
-loop-holds : tie.Need-loop-init invariant-loop decreases-loop
+loop-holds : tie.Need-loop-i-init invariant-loop-i decreases-loop-i
 unfolding weights_sound
 loop-holds c = (search rules, λ s e. refl)
 
-mul-weight-sound : tie.Need-overflow-mul-weight-sound invariant-loop decreases-loop
+mul-weight-sound : tie.Need-overflow_mul-i invariant-loop-i decreases-loop-i
 mul-weight-sound c = omega (arith, within c)
 
-mul-weight-sound-2 : tie.Need-overflow-mul-weight-sound-2 invariant-loop decreases-loop
+mul-weight-sound-2 : tie.Need-offset_bounds-store-i invariant-loop-i decreases-loop-i
 mul-weight-sound-2 c = omega (arith, within c)
 
-shared-slice-read-weight-sound : tie.Need-shared-slice-read-weight-sound invariant-loop decreases-loop
+shared-slice-read-weight-sound : tie.Need-bounds-store-i invariant-loop-i decreases-loop-i
 shared-slice-read-weight-sound c = within c.before
 
-weight-sound-requires : tie.Need-weight-sound-requires invariant-loop decreases-loop
+weight-sound-requires : tie.Need-weight_sound-requires invariant-loop-i decreases-loop-i
 weight-sound-requires c κs = search rules
 
-add-i : tie.Need-overflow-add-i invariant-loop decreases-loop
+add-i : tie.Need-overflow_add-i invariant-loop-i decreases-loop-i
 add-i c = search rules
 
-loop-less : tie.Need-loop-smaller invariant-loop decreases-loop
+loop-less : tie.Need-loop-i-smaller invariant-loop-i decreases-loop-i
 loop-less c = search rules
 
-loop-again : tie.Need-loop-preserved invariant-loop decreases-loop
+loop-again : tie.Need-loop-i-preserved invariant-loop-i decreases-loop-i
 loop-again c =
-    let a = c.before.before.before.before.before.before.before.args in (
+    let a = c.args in (
       search rules,
       λ s e.
-          ap (λ (k : ℕ). every fine (drop k (stripped s a.count a.store.now))) (add-one c.before.before.before.before.loop.i)
-          ∙ every-next fine (stripped s a.count a.store.now) c.before.before.before.before.loop.i (nothing s) (there c.before.before.before s) (sym (judged c.before s e) ∙ c.if1.true)
-          ∙ c.before.before.before.before.loop.invariant.1 s e,
+          ap (λ (k : ℕ). every fine (drop k (stripped s a.count a.store.now))) (add-one c.loop-i.i)
+          ∙ every-next fine (stripped s a.count a.store.now) c.loop-i.i (nothing s) (there c.before.before.before s) (sym (judged c.before s e) ∙ c.if-weight_sound.true)
+          ∙ c.loop-i.invariant.1 s e,
     )
 
-returns : tie.Need-returns invariant-loop decreases-loop
+returns : tie.Need-returns-else-weight_sound invariant-loop-i decreases-loop-i
 returns c =
-    let a = c.before.before.before.before.before.before.before.args in
-    let e = c.before.before.before.before.before.entry-len.ensures in
-    sym (every-stop fine (stripped a.size a.count a.store.now) c.before.before.before.before.loop.i (nothing a.size) (there c.before.before.before a.size) (sym (judged c.before a.size e) ∙ c.if1.false))
-    ∙ c.before.before.before.before.loop.invariant.1 a.size e
+    let a = c.args in
+    let e = c.entry_len-len.ensures in
+    sym (every-stop fine (stripped a.size a.count a.store.now) c.loop-i.i (nothing a.size) (there c.before.before.before a.size) (sym (judged c.before a.size e) ∙ c.if-weight_sound.false))
+    ∙ c.loop-i.invariant.1 a.size e
 
-returns-2 : tie.Need-returns-2 invariant-loop decreases-loop
+returns-2 : tie.Need-returns invariant-loop-i decreases-loop-i
 returns-2 c =
-    let a = c.before.before.before.before.args in
-    sym (every-end fine (stripped a.size a.count a.store.now) c.before.loop.i (rw (length-stripped a.size a.count a.store.now) c.loop-test.false))
-    ∙ c.before.loop.invariant.1 a.size c.before.before.entry-len.ensures
+    let a = c.args in
+    sym (every-end fine (stripped a.size a.count a.store.now) c.loop-i.i (rw (length-stripped a.size a.count a.store.now) c.loop-i-test.false))
+    ∙ c.loop-i.invariant.1 a.size c.entry_len-len.ensures
 
-pub weights-sound-spec : {M : Type 1} → statement M
-weights-sound-spec =
-    tie.close
-    (tie.spec
-    invariant-loop
-    decreases-loop
+pub weights_sound_spec : {M : Type 1} → statement M
+weights_sound_spec = tie.close (tie.spec
+    invariant-loop-i
+    decreases-loop-i
     entry-len-requires
     loop-holds
     mul-weight-sound

@@ -16,11 +16,14 @@ plain-requires c κs = search rules
 
 returns : tie.Need-returns
 returns c =
-    let e = c.before in
-    let a = e.before.before.args in (
+    let e = c in
+    let a = e.args in (
       uncalled c.plain.ensures.0 (λ x. bad-calls x refl) (omega arith) (omega arith),
       c.plain.ensures.1 ∙ ap (plain (Item.Bad a.fault) a.from) e.end.ensures.1,
     )
 
-pub bad-word-spec : {M : Type 1} → statement M
-bad-word-spec = tie.close (tie.spec end-requires plain-requires returns)
+pub bad_word_spec : {M : Type 1} → statement M
+bad_word_spec = tie.close (tie.spec
+    end-requires
+    plain-requires
+    returns)

@@ -17,50 +17,58 @@ use Rattle.decimal.proofs.decimal.Tie as tie
 right : (text : List ℕ) (from : ℕ) (r : Decimal) → r ≡ decimal_at text from → (r ≡ decimal_at text from) × Within from (length text) r.end
 right text from r e = (e, subst (λ (d : Decimal). Within from (length text) d.end) (sym e) (decimal-within text from))
 
-sign-end-requires : tie.Need-sign-end-requires
+sign-end-requires : tie.Need-sign_end-start-requires
 sign-end-requires c κs = search rules
 
-significand-at-requires : tie.Need-significand-at-requires
+significand-at-requires : tie.Need-significand_at-s-requires
 significand-at-requires c κs = search rules
 
 refusal-requires : tie.Need-refusal-requires
 refusal-requires c κs = search rules
 
-returns : tie.Need-returns
+returns : tie.Need-returns-then-s-eq0
 returns c =
-    let s = c.before.before.before in
-    let t = s.before in
-    let a = t.before.before.args in
+    let s = c in
+    let t = s in
+    let a = t.args in
     right a.text.now a.from c.refusal.result
     (c.refusal.ensures
-    ∙ no_number a.text.now a.from t.sign-end.result t.sign-end.ensures s.significand-at.result s.significand-at.ensures c.before.if1.true)
+    ∙ no_number a.text.now a.from t.sign_end-start.result t.sign_end-start.ensures s.significand_at-s.result s.significand_at-s.ensures c.if-s-eq0.true)
 
-exponent-at-requires : tie.Need-exponent-at-requires
+exponent-at-requires : tie.Need-exponent_at-x-requires
 exponent-at-requires c κs = search rules
 
-byte-at-requires : tie.Need-byte-at-requires
+byte-at-requires : tie.Need-byte_at-requires
 byte-at-requires c κs = search rules
 
 -- fewer digits stand after the point than there are bytes
-few : (c : tie.After-significand-at) → c.significand-at.result.after < 2 ^ 63
+few : (c : tie.After-significand_at-s) → c.significand_at-s.result.after < 2 ^ 63
 few c =
-    let t = c.before in
-    let a = t.before.before.args in
-    omega (arith, t.before.before.well-formed.0.1, fraction-counted a.text.now t.sign-end.result c.significand-at.result c.significand-at.ensures, fraction-within a.text.now t.sign-end.result)
+    let t = c in
+    let a = t.args in
+    omega (arith, t.well_formed.0.1, fraction-counted a.text.now t.sign_end-start.result c.significand_at-s.result c.significand_at-s.ensures, fraction-within a.text.now t.sign_end-start.result)
 
-answer-of-requires : tie.Need-answer-of-requires
+answer-of-requires : tie.Need-answer_of-requires
 answer-of-requires c κs = few c.before.before.before.before
 
-returns-2 : tie.Need-returns-2
+returns-2 : tie.Need-returns
 returns-2 c =
-    let x = c.before.before in
-    let s = x.before.before.before in
-    let t = s.before in
-    let a = t.before.before.args in
-    right a.text.now a.from c.answer-of.result
-    (c.answer-of.ensures
-    ∙ answered a.text.now a.from t.sign-end.result t.sign-end.ensures s.significand-at.result s.significand-at.ensures x.before.if1.false
-    x.exponent-at.result x.exponent-at.ensures c.before.byte_at.result c.before.byte_at.ensures (few s))
+    let x = c in
+    let s = x in
+    let t = s in
+    let a = t.args in
+    right a.text.now a.from c.answer_of.result
+    (c.answer_of.ensures
+    ∙ answered a.text.now a.from t.sign_end-start.result t.sign_end-start.ensures s.significand_at-s.result s.significand_at-s.ensures x.if-s-eq0.false
+    x.exponent_at-x.result x.exponent_at-x.ensures c.byte_at.result c.byte_at.ensures (few s.before.before.before.before.before))
 
-pub decimal-spec : {M : Type 1} → statement M
-decimal-spec = tie.close (tie.spec sign-end-requires significand-at-requires refusal-requires returns exponent-at-requires byte-at-requires answer-of-requires returns-2)
+pub decimal_spec : {M : Type 1} → statement M
+decimal_spec = tie.close (tie.spec
+    sign-end-requires
+    significand-at-requires
+    refusal-requires
+    returns
+    exponent-at-requires
+    byte-at-requires
+    answer-of-requires
+    returns-2)

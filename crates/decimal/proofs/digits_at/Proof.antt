@@ -10,83 +10,81 @@ use Rattle.decimal.proofs.Runs.{left, left-all, left-none, left-fits, left-large
 use Rattle.decimal.proofs.digits_at.Statement.{statement}
 use Rattle.decimal.proofs.digits_at.Tie as tie
 
-abbrev invariant-loop : tie.invariant-loop
-invariant-loop text from before value₀ large₀ at₀ value large at = (value ≤ largest) × (left text at value large ≡ run_at text from before)
+abbrev invariant-loop-at : tie.invariant-loop-at
+invariant-loop-at text from before value₀ large₀ at₀ value large at = (value ≤ largest) × (left text at value large ≡ run_at text from before)
 
-abbrev decreases-loop : tie.decreases-loop
-decreases-loop text from before value₀ large₀ at₀ value large at = length text - at
+abbrev decreases-loop-at : tie.decreases-loop-at
+decreases-loop-at text from before value₀ large₀ at₀ value large at = length text - at
 
 -- the bytes that are read, and the turn of the loop in which a digit was seen
-abbrev bytes : tie.At-loop invariant-loop decreases-loop → List ℕ
-bytes c = c.before.args.text.now
+abbrev bytes : tie.At-loop-at invariant-loop-at decreases-loop-at → List ℕ
+bytes c = c.args.text.now
 
-abbrev turn : tie.Else2 invariant-loop decreases-loop → tie.At-loop invariant-loop decreases-loop
+abbrev turn : tie.Else-b-gt57 invariant-loop-at decreases-loop-at → tie.At-loop-at invariant-loop-at decreases-loop-at
 turn c = c.before.before.before.before
 
-here : (c : tie.Else2 invariant-loop decreases-loop) → (turn c).loop.at < length (bytes (turn c))
-here c = c.before.before.before.loop-test.true
+here : (c : tie.Else-b-gt57 invariant-loop-at decreases-loop-at) → (turn c).loop-at.at < length (bytes (turn c))
+here c = c.loop-at-test.true
 
-loop-holds : tie.Need-loop-init invariant-loop decreases-loop
+loop-holds : tie.Need-loop-at-init invariant-loop-at decreases-loop-at
 loop-holds c = (omega arith, left-all _ _ _)
 
-shared-slice-read-b : tie.Need-shared-slice-read-b invariant-loop decreases-loop
+shared-slice-read-b : tie.Need-bounds-text-at invariant-loop-at decreases-loop-at
 shared-slice-read-b c = search rules
 
-returns : tie.Need-returns invariant-loop decreases-loop
+returns : tie.Need-returns-then-b-lt48 invariant-loop-at decreases-loop-at
 returns c =
-    let l = c.before.before.before in
-    left-none (bytes l) l.loop.at l.loop.value l.loop.large l.loop.invariant.0 (below-first (bytes l) l.loop.at c.before.before.loop-test.true c.if1.true)
-    ∙ l.loop.invariant.1
+    let l = c in
+    left-none (bytes l.before.before.before) l.loop-at.at l.loop-at.value l.loop-at.large l.loop-at.invariant.0 (below-first (bytes l.before.before.before) l.loop-at.at c.loop-at-test.true c.if-b-lt48.true)
+    ∙ l.loop-at.invariant.1
 
-returns-2 : tie.Need-returns-2 invariant-loop decreases-loop
+returns-2 : tie.Need-returns-then-b-gt57 invariant-loop-at decreases-loop-at
 returns-2 c =
-    let l = c.before.before.before.before in
-    left-none (bytes l) l.loop.at l.loop.value l.loop.large l.loop.invariant.0 (above-first (bytes l) l.loop.at c.before.before.before.loop-test.true c.before.if1.false (omega (arith, c.if2.true)))
-    ∙ l.loop.invariant.1
+    let l = c in
+    left-none (bytes l.before.before.before.before) l.loop-at.at l.loop-at.value l.loop-at.large l.loop-at.invariant.0 (above-first (bytes l.before.before.before.before) l.loop-at.at c.loop-at-test.true c.if-b-lt48.false (omega (arith, c.if-b-gt57.true)))
+    ∙ l.loop-at.invariant.1
 
-add_at : tie.Need-overflow-add-at invariant-loop decreases-loop
+add_at : tie.Need-overflow_add-at invariant-loop-at decreases-loop-at
 add_at c = search rules
 
-cast-d : tie.Need-overflow-cast-d invariant-loop decreases-loop
-cast-d c = omega (arith, c.if2.false)
+cast-d : tie.Need-overflow_cast-d invariant-loop-at decreases-loop-at
+cast-d c = omega (arith, c.if-b-gt57.false)
 
-sub-if3 : tie.Need-overflow-sub-if3 invariant-loop decreases-loop
-sub-if3 c = omega (arith, c.if2.false)
+sub-if3 : tie.Need-overflow_sub-d-in-loop-at invariant-loop-at decreases-loop-at
+sub-if3 c = omega (arith, c.if-b-gt57.false)
 
-loop-less : tie.Need-loop-smaller invariant-loop decreases-loop
+loop-less : tie.Need-loop-at-smaller-then-d-value invariant-loop-at decreases-loop-at
 loop-less c = search rules
 
-loop-again : tie.Need-loop-preserved invariant-loop decreases-loop
+loop-again : tie.Need-loop-at-preserved-then-d-value invariant-loop-at decreases-loop-at
 loop-again c =
     let l = turn c.before in
-    (omega arith, left-large (bytes l) l.loop.at l.loop.value l.loop.large (here c.before) c.before.before.if1.false c.before.if2.false (omega (arith, c.if3.true)) ∙ l.loop.inv.1)
+    (omega arith, left-large (bytes l) l.loop-at.at l.loop-at.value l.loop-at.large (here c.before) c.if-b-lt48.false c.if-b-gt57.false (omega (arith, c.if-d-value.true)) ∙ l.loop-at.invariant.1)
 
-mul-value : tie.Need-overflow-mul-value invariant-loop decreases-loop
-mul-value c = omega (arith, c.if3.false)
+mul-value : tie.Need-overflow_mul-value invariant-loop-at decreases-loop-at
+mul-value c = omega (arith, c.if-d-value.false)
 
-add-value : tie.Need-overflow-add-value invariant-loop decreases-loop
-add-value c = omega (arith, c.if3.false)
+add-value : tie.Need-overflow_add-value invariant-loop-at decreases-loop-at
+add-value c = omega (arith, c.if-d-value.false)
 
-loop-less-2 : tie.Need-loop-smaller-2 invariant-loop decreases-loop
+loop-less-2 : tie.Need-loop-at-smaller invariant-loop-at decreases-loop-at
 loop-less-2 c = search rules
 
-loop-again-2 : tie.Need-loop-preserved-2 invariant-loop decreases-loop
+loop-again-2 : tie.Need-loop-at-preserved invariant-loop-at decreases-loop-at
 loop-again-2 c =
     let l = turn c.before in
-    let fits : 10 * l.loop.value + (get_or (bytes l) l.loop.at 0 - 48) ≤ largest = omega (arith, c.if3.false) in
-    (fits, left-fits (bytes l) l.loop.at l.loop.value l.loop.large (here c.before) c.before.before.if1.false c.before.if2.false fits ∙ l.loop.inv.1)
+    let fits : 10 * l.loop-at.value + (get_or (bytes l) l.loop-at.at 0 - 48) ≤ largest = omega (arith, c.if-d-value.false) in
+    (fits, left-fits (bytes l) l.loop-at.at l.loop-at.value l.loop-at.large (here c.before) c.if-b-lt48.false c.if-b-gt57.false fits ∙ l.loop-at.invariant.1)
 
-returns-3 : tie.Need-returns-3 invariant-loop decreases-loop
+returns-3 : tie.Need-returns invariant-loop-at decreases-loop-at
 returns-3 c =
-    let l = c.before in
-    left-none (bytes l) l.loop.at l.loop.value l.loop.large l.loop.invariant.0 (past_end (bytes l) l.loop.at c.loop-test.false) ∙ l.loop.invariant.1
+    let l = c in
+    left-none (bytes l.before) l.loop-at.at l.loop-at.value l.loop-at.large l.loop-at.invariant.0 (past_end (bytes l.before) l.loop-at.at c.loop-at-test.false) ∙ l.loop-at.invariant.1
 
-pub digits-at-spec : {M : Type 1} → statement M
-digits-at-spec =
-    tie.close
-    (tie.spec
-    invariant-loop
-    decreases-loop
+pub digits_at_spec : {M : Type 1} → statement M
+digits_at_spec = tie.close (tie.spec
+    invariant-loop-at
+    decreases-loop-at
     loop-holds
     shared-slice-read-b
     returns

@@ -9,28 +9,33 @@ use Rattle.decimal.proofs.sign_end.Statement.{statement}
 use Rattle.decimal.proofs.sign_end.Tie as tie
 
 -- what was found of the byte
-found : (c : tie.After-is-sign) → is_sign (byte_at c.before.before.before.args.text.now c.before.before.before.args.at) ≡ c.is-sign.result
-found c = ap is_sign (sym c.before.byte_at.ensures) ∙ sym c.is-sign.ensures
+found : (c : tie.After-is_sign) → is_sign (byte_at c.args.text.now c.args.at) ≡ c.is_sign.result
+found c = ap is_sign (sym c.byte_at.ensures) ∙ sym c.is_sign.ensures
 
-byte-at-requires : tie.Need-byte-at-requires
+byte-at-requires : tie.Need-byte_at-requires
 byte-at-requires c κs = search rules
 
-is-sign-requires : tie.Need-is-sign-requires
+is-sign-requires : tie.Need-is_sign-requires
 is-sign-requires c κs = search rules
 
-add-result : tie.Need-overflow-add-result
+add-result : tie.Need-overflow_add-result
 unfolding is_sign
 add-result c =
-    let a = c.before.before.before.before.args in
-    omega (arith, inside a.text.now a.at is_sign refl (found c.before ∙ c.if1.true))
+    let a = c.args in
+    omega (arith, inside a.text.now a.at is_sign refl (found c.before ∙ c.if-is_sign.true))
 
-returns : tie.Need-returns
+returns : tie.Need-returns-then-is_sign
 unfolding sign_end
-returns c = sym (rw (found c.before ∙ c.if1.true))
+returns c = sym (rw (found c.before ∙ c.if-is_sign.true))
 
-returns-2 : tie.Need-returns-2
+returns-2 : tie.Need-returns
 unfolding sign_end
-returns-2 c = sym (rw (found c.before ∙ c.if1.false))
+returns-2 c = sym (rw (found c.before ∙ c.if-is_sign.false))
 
-pub sign-end-spec : {M : Type 1} → statement M
-sign-end-spec = tie.close (tie.spec byte-at-requires is-sign-requires add-result returns returns-2)
+pub sign_end_spec : {M : Type 1} → statement M
+sign_end_spec = tie.close (tie.spec
+    byte-at-requires
+    is-sign-requires
+    add-result
+    returns
+    returns-2)

@@ -16,26 +16,30 @@ use Rattle.decimal.proofs.whole.Tie as tie
 right : (text : List ℕ) (from : ℕ) (r : Whole) → r ≡ whole_at text from → (r ≡ whole_at text from) × Within from (length text) r.end
 right text from r e = (e, subst (λ (w : Whole). Within from (length text) w.end) (sym e) (whole-within text from))
 
-digits-at-requires : tie.Need-digits-at-requires
+digits-at-requires : tie.Need-digits_at-run-requires
 digits-at-requires c κs = search rules
 
-returns : tie.Need-returns
+returns : tie.Need-returns-then-run-from
 returns c =
-    let d = c.before.before in
-    let a = d.before.before.args in
-    right a.text.now a.from _ (no_digit a.text.now a.from d.digits-at.result d.digits-at.ensures c.if1.true)
+    let d = c in
+    let a = d.args in
+    right a.text.now a.from _ (no_digit a.text.now a.from d.digits_at-run.result d.digits_at-run.ensures c.if-run-from.true)
 
-returns-2 : tie.Need-returns-2
+returns-2 : tie.Need-returns-then-run
 returns-2 c =
-    let d = c.before.before.before in
-    let a = d.before.before.args in
-    right a.text.now a.from _ (large-whole a.text.now a.from d.digits-at.result d.digits-at.ensures c.before.if1.false c.if2.true)
+    let d = c in
+    let a = d.args in
+    right a.text.now a.from _ (large-whole a.text.now a.from d.digits_at-run.result d.digits_at-run.ensures c.if-run-from.false c.if-run.true)
 
-returns-3 : tie.Need-returns-3
+returns-3 : tie.Need-returns
 returns-3 c =
-    let d = c.before.before.before in
-    let a = d.before.before.args in
-    right a.text.now a.from _ (whole-read a.text.now a.from d.digits-at.result d.digits-at.ensures c.before.if1.false c.if2.false)
+    let d = c in
+    let a = d.args in
+    right a.text.now a.from _ (whole-read a.text.now a.from d.digits_at-run.result d.digits_at-run.ensures c.if-run-from.false c.if-run.false)
 
-pub whole-spec : {M : Type 1} → statement M
-whole-spec = tie.close (tie.spec digits-at-requires returns returns-2 returns-3)
+pub whole_spec : {M : Type 1} → statement M
+whole_spec = tie.close (tie.spec
+    digits-at-requires
+    returns
+    returns-2
+    returns-3)

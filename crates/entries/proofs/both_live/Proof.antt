@@ -16,23 +16,27 @@ first-lost : (a b : Bool) → (a && true) ≡ false → false ≡ (a && b)
 first-lost true b e = absurd (true≢false e)
 first-lost false b e = refl
 
-is-live-requires : tie.Need-is-live-requires
+is-live-requires : tie.Need-is_live-requires
 is-live-requires c κs = search rules
 
-is-live-requires-2 : tie.Need-is-live-requires-2
+is-live-requires-2 : tie.Need-is_live-requires-then-is_live
 is-live-requires-2 c κs = search rules
 
-returns : tie.Need-returns
+returns : tie.Need-returns-then-is_live
 unfolding every
 returns c =
-    let a = c.before.before.before.args in
-    c.is-live2.ensures ∙ second-decides (eqb (bit a.a a.loss) 0) (sym c.before.before.is_live.ensures ∙ c.before.if1.true)
+    let a = c.args in
+    c.is_live-then-is_live.ensures ∙ second-decides (eqb (bit a.a a.loss) 0) (sym c.is_live.ensures ∙ c.if-is_live.true)
 
-returns-2 : tie.Need-returns-2
+returns-2 : tie.Need-returns
 unfolding every
 returns-2 c =
-    let a = c.before.before.args in
-    first-lost (eqb (bit a.a a.loss) 0) _ (sym c.before.is_live.ensures ∙ c.if1.false)
+    let a = c.args in
+    first-lost (eqb (bit a.a a.loss) 0) _ (sym c.is_live.ensures ∙ c.if-is_live.false)
 
-pub both-live-spec : {M : Type 1} → statement M
-both-live-spec = tie.close (tie.spec is-live-requires is-live-requires-2 returns returns-2)
+pub both_live_spec : {M : Type 1} → statement M
+both_live_spec = tie.close (tie.spec
+    is-live-requires
+    is-live-requires-2
+    returns
+    returns-2)

@@ -10,12 +10,14 @@ alone : (b : Bool) → b ≡ (b && true)
 alone true = refl
 alone false = refl
 
-shr-result : tie.Need-overflow-shr-result
+shr-result : tie.Need-overflow_shr-result
 shr-result c = search rules
 
 returns : tie.Need-returns
 unfolding every
 returns c = alone _
 
-pub is-live-spec : {M : Type 1} → statement M
-is-live-spec = tie.close (tie.spec shr-result returns)
+pub is_live_spec : {M : Type 1} → statement M
+is_live_spec = tie.close (tie.spec
+    shr-result
+    returns)

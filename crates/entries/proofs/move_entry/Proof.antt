@@ -10,86 +10,84 @@ use Rattle.entries.proofs.Moved.{copied, Apart, apart, copied-length, copied-ste
 use Rattle.entries.proofs.move_entry.Statement.{statement}
 use Rattle.entries.proofs.move_entry.Tie as tie
 
-abbrev invariant-loop : tie.invariant-loop
-invariant-loop store₀ count from to len a b k₀ store k = (k ≤ len) × (store ≡ copied len from to store₀ k)
+abbrev invariant-loop-k : tie.invariant-loop-k
+invariant-loop-k store₀ count from to len a b k₀ store k = (k ≤ len) × (store ≡ copied len from to store₀ k)
 
-abbrev decreases-loop : tie.decreases-loop
-decreases-loop store₀ count from to len a b k₀ store k = len - k
+abbrev decreases-loop-k : tie.decreases-loop-k
+decreases-loop-k store₀ count from to len a b k₀ store k = len - k
 
-earlier : (c : tie.Else1 invariant-loop decreases-loop) → c.before.before.args.to < c.before.before.args.from
-earlier c = omega (arith, c.before.before.requires.2, c.if1.false)
+earlier : (c : tie.Else-from-to invariant-loop-k decreases-loop-k) → c.args.to < c.args.from
+earlier c = omega (arith, c.requires.2, c.if-from-to.false)
 
-the-words : (c : tie.After-entry-len invariant-loop decreases-loop) → Apart c.entry-len.result c.before.before.before.args.from c.before.before.before.args.to c.before.before.before.args.store.now
-the-words c = apart c.before.before.before.requires.0 c.entry-len.ensures c.before.before.before.requires.1 (earlier c.before)
+the-words : (c : tie.After-entry_len-len invariant-loop-k decreases-loop-k) → Apart c.entry_len-len.result c.args.from c.args.to c.args.store.now
+the-words c = apart c.requires.0 c.entry_len-len.ensures c.requires.1 (earlier c.before)
 
-same-long : (c : tie.At-loop invariant-loop decreases-loop) → length c.loop.store ≡ length c.before.before.before.before.args.store.now
-same-long c = ap length c.loop.invariant.1 ∙ copied-length (the-words c.before) c.loop.k c.loop.invariant.0
+same-long : (c : tie.At-loop-k invariant-loop-k decreases-loop-k) → length c.loop-k.store ≡ length c.args.store.now
+same-long c = ap length c.loop-k.invariant.1 ∙ copied-length (the-words c.before) c.loop-k.k c.loop-k.invariant.0
 
-returns : tie.Need-returns invariant-loop decreases-loop
-returns c = unmoved-entry c.before.before.requires.0 c.if1.true
+returns : tie.Need-returns-then-from-to invariant-loop-k decreases-loop-k
+returns c = unmoved-entry c.requires.0 c.if-from-to.true
 
-entry-len-requires : tie.Need-entry-len-requires invariant-loop decreases-loop
-entry-len-requires c κs = in-limits c.before.before.requires.0
+entry-len-requires : tie.Need-entry_len-len-requires invariant-loop-k decreases-loop-k
+entry-len-requires c κs = in-limits c.requires.0
 
-mul-a : tie.Need-overflow-mul-a invariant-loop decreases-loop
+mul-a : tie.Need-overflow_mul-a invariant-loop-k decreases-loop-k
 mul-a c = omega (arith, the-words c)
 
-mul-b : tie.Need-overflow-mul-b invariant-loop decreases-loop
+mul-b : tie.Need-overflow_mul-b invariant-loop-k decreases-loop-k
 mul-b c = omega (arith, the-words c)
 
-loop-holds : tie.Need-loop-init invariant-loop decreases-loop
+loop-holds : tie.Need-loop-k-init invariant-loop-k decreases-loop-k
 loop-holds c =
-    let a = c.before.before.before.args in
-    let n = c.entry-len.result in
+    let a = c.args in
+    let n = c.entry_len-len.result in
     (omega arith, paste-zero a.store.now (a.to * n) (take n (drop (a.from * n) a.store.now)))
 
-add-store : tie.Need-overflow-add-store invariant-loop decreases-loop
+add-store : tie.Need-overflow_add-store invariant-loop-k decreases-loop-k
 add-store c = omega (arith, the-words c.before.before)
 
-mul-store : tie.Need-overflow-mul-store invariant-loop decreases-loop
+mul-store : tie.Need-offset_bounds-store-a invariant-loop-k decreases-loop-k
 mul-store c = omega (arith, the-words c.before.before)
 
-slice-read-store : tie.Need-slice-read-store invariant-loop decreases-loop
+slice-read-store : tie.Need-bounds-store-a invariant-loop-k decreases-loop-k
 slice-read-store c = omega (arith, the-words c.before.before.before, same-long c.before.before)
 
-add-store-2 : tie.Need-overflow-add-store-2 invariant-loop decreases-loop
+add-store-2 : tie.Need-overflow_add-store-in-loop-k invariant-loop-k decreases-loop-k
 add-store-2 c = omega (arith, the-words c.before.before.before)
 
-mul-store-2 : tie.Need-overflow-mul-store-2 invariant-loop decreases-loop
+mul-store-2 : tie.Need-offset_bounds-store-b invariant-loop-k decreases-loop-k
 mul-store-2 c = omega (arith, the-words c.before.before.before)
 
-slice-write-store : tie.Need-slice-write-store invariant-loop decreases-loop
+slice-write-store : tie.Need-bounds-store-b invariant-loop-k decreases-loop-k
 slice-write-store c = omega (arith, the-words c.before.before.before, same-long c.before.before)
 
-add-k : tie.Need-overflow-add-k invariant-loop decreases-loop
+add-k : tie.Need-overflow_add-k invariant-loop-k decreases-loop-k
 add-k c = omega arith
 
-loop-less : tie.Need-loop-smaller invariant-loop decreases-loop
+loop-less : tie.Need-loop-k-smaller invariant-loop-k decreases-loop-k
 loop-less c = omega arith
 
-loop-again : tie.Need-loop-preserved invariant-loop decreases-loop
+loop-again : tie.Need-loop-k-preserved invariant-loop-k decreases-loop-k
 loop-again c =
-    let l = c.before.before in
-    let a = l.before.before.before.before.args in
-    let n = l.before.entry-len.result in
-    let k = l.loop.k in
-    (omega arith, ap (λ (w : List ℕ). set w (a.to * n + k) (get_or w (a.from * n + k) 0)) l.loop.invariant.1 ∙ copied-step (the-words l.before) k c.before.loop-test.true)
+    let l = c in
+    let a = l.args in
+    let n = l.entry_len-len.result in
+    let k = l.loop-k.k in
+    (omega arith, ap (λ (w : List ℕ). set w (a.to * n + k) (get_or w (a.from * n + k) 0)) l.loop-k.invariant.1 ∙ copied-step (the-words l.before.before.before) k c.loop-k-test.true)
 
-same_length : tie.Need-same-length invariant-loop decreases-loop
+same_length : tie.Need-shape_of-store invariant-loop-k decreases-loop-k
 same_length c = same-long c.before
 
-returns-2 : tie.Need-returns-2 invariant-loop decreases-loop
+returns-2 : tie.Need-returns invariant-loop-k decreases-loop-k
 returns-2 c =
-    let l = c.before in
-    let p = l.before.before.before.before.requires in
-    moved-entry p.0 l.before.entry-len.ensures p.1 (earlier l.before.before) l.loop.invariant.0 c.loop-test.false l.loop.invariant.1
+    let l = c in
+    let p = l.requires in
+    moved-entry p.0 l.entry_len-len.ensures p.1 (earlier l.before.before.before) l.loop-k.invariant.0 c.loop-k-test.false l.loop-k.invariant.1
 
-pub move-entry-spec : {M : Type 1} → statement M
-move-entry-spec =
-    tie.close
-    (tie.spec
-    invariant-loop
-    decreases-loop
+pub move_entry_spec : {M : Type 1} → statement M
+move_entry_spec = tie.close (tie.spec
+    invariant-loop-k
+    decreases-loop-k
     returns
     entry-len-requires
     mul-a

@@ -9,39 +9,37 @@ use borrow.Author.Rules.{rules}
 use Rattle.entries.proofs.rows_of.Statement.{statement}
 use Rattle.entries.proofs.rows_of.Tie as tie
 
-mul-rows : tie.Need-overflow-mul-rows
+mul-rows : tie.Need-overflow_mul-rows
 mul-rows c = search rules
 
-add-rows : tie.Need-overflow-add-rows
+add-rows : tie.Need-overflow_add-rows
 add-rows c = search rules
 
-entry-requires : tie.Need-entry-requires
+entry-requires : tie.Need-entry-e-requires
 entry-requires c κs = search rules
 
-mul-result : tie.Need-overflow-mul-result
+mul-result : tie.Need-offset_bounds-e-rows
 mul-result c = search rules
 
-sub-result : tie.Need-overflow-sub-result
-sub-result c = omega (arith, c.entry.ensures.1)
+sub-result : tie.Need-slice_bounds-result-count
+sub-result c = omega (arith, c.entry-e.ensures.1)
 
-part-result-start : tie.Need-slice-bounds-result-start
-part-result-start c = omega (arith, c.entry.ensures.1)
+part-result-start : tie.Need-slice_bounds-result-start
+part-result-start c = omega (arith, c.entry-e.ensures.1)
 
-part-result-end : tie.Need-slice-bounds-result-end
+part-result-end : tie.Need-slice_bounds-result-end
 part-result-end c = search rules
 
 returns : tie.Need-returns
 unfolding entry_of
 returns c =
-    let k = 5 + 3 * c.before.before.before.before.args.size.k in
-    let e = c.before.entry in
+    let k = 5 + 3 * c.args.size.k in
+    let e = c.entry-e in
     let w = e.result.now in
     (part-tail k w ∙ ap (drop k) e.ensures.0, omega (arith, ap length (part-tail k w), length-drop k w, e.ensures.1))
 
-pub rows-of-spec : {M : Type 1} → statement M
-rows-of-spec =
-    tie.close
-    (tie.spec
+pub rows_of_spec : {M : Type 1} → statement M
+rows_of_spec = tie.close (tie.spec
     mul-rows
     add-rows
     entry-requires

@@ -7,112 +7,110 @@ use Rattle.entries.proofs.Exchange.{Exchanging, none-exchanged, one-exchanged, e
 use Rattle.entries.proofs.swap_entries.Statement.{statement}
 use Rattle.entries.proofs.swap_entries.Tie as tie
 
-abbrev invariant-loop : tie.invariant-loop
-invariant-loop store₀ count a b len at bt j₀ store j = (j ≤ len) × Exchanging len count a b store₀ j store
+abbrev invariant-loop-j : tie.invariant-loop-j
+invariant-loop-j store₀ count a b len at bt j₀ store j = (j ≤ len) × Exchanging len count a b store₀ j store
 
-abbrev decreases-loop : tie.decreases-loop
-decreases-loop store₀ count a b len at bt j₀ store j = len - j
+abbrev decreases-loop-j : tie.decreases-loop-j
+decreases-loop-j store₀ count a b len at bt j₀ store j = len - j
 
-abbrev start : tie.After-entry-len invariant-loop decreases-loop → tie.Start invariant-loop decreases-loop
+abbrev start : tie.After-entry_len-len invariant-loop-j decreases-loop-j → tie.Start invariant-loop-j decreases-loop-j
 start c = c.before.before
 
 -- both entries end within the store
-ends : (c : tie.After-entry-len invariant-loop decreases-loop)
-    → ((start c).args.a * c.entry-len.result + c.entry-len.result ≤ length (start c).args.store.now)
-    × ((start c).args.b * c.entry-len.result + c.entry-len.result ≤ length (start c).args.store.now)
+ends : (c : tie.After-entry_len-len invariant-loop-j decreases-loop-j)
+    → ((start c).args.a * c.entry_len-len.result + c.entry_len-len.result ≤ length (start c).args.store.now)
+    × ((start c).args.b * c.entry_len-len.result + c.entry_len-len.result ≤ length (start c).args.store.now)
 ends c =
     let a = (start c).args in
     let p = (start c).requires in
     let h : a.a < a.count = omega (arith, p.1, p.2) in (
-      slot-end a.size c.entry-len.result _ a.count p.0.sized c.entry-len.ensures p.0.room a.a h,
-      slot-end a.size c.entry-len.result _ a.count p.0.sized c.entry-len.ensures p.0.room a.b p.2,
+      slot-end a.size c.entry_len-len.result _ a.count p.0.sized c.entry_len-len.ensures p.0.room a.a h,
+      slot-end a.size c.entry_len-len.result _ a.count p.0.sized c.entry_len-len.ensures p.0.room a.b p.2,
     )
 
 -- and so do the listed ones
-listed-end : (c : tie.After-entry-len invariant-loop decreases-loop) → (start c).args.count * c.entry-len.result ≤ length (start c).args.store.now
-listed-end c = let a = (start c).args in slots_end a.size c.entry-len.result _ a.count (start c).requires.0.sized c.entry-len.ensures (start c).requires.0.room
+listed-end : (c : tie.After-entry_len-len invariant-loop-j decreases-loop-j) → (start c).args.count * c.entry_len-len.result ≤ length (start c).args.store.now
+listed-end c = let a = (start c).args in slots_end a.size c.entry_len-len.result _ a.count (start c).requires.0.sized c.entry_len-len.ensures (start c).requires.0.room
 
-entry-len-requires : tie.Need-entry-len-requires invariant-loop decreases-loop
-entry-len-requires c κs = limits _ _ c.before.requires.0.sized
+entry-len-requires : tie.Need-entry_len-len-requires invariant-loop-j decreases-loop-j
+entry-len-requires c κs = limits _ _ c.requires.0.sized
 
-mul_at : tie.Need-overflow-mul-at invariant-loop decreases-loop
+mul_at : tie.Need-overflow_mul-at invariant-loop-j decreases-loop-j
 mul_at c = omega (arith, ends c)
 
-mul-bt : tie.Need-overflow-mul-bt invariant-loop decreases-loop
+mul-bt : tie.Need-overflow_mul-bt invariant-loop-j decreases-loop-j
 mul-bt c = omega (arith, ends c)
 
-loop-holds : tie.Need-loop-init invariant-loop decreases-loop
-loop-holds c = let a = (start c).args in (omega arith, none-exchanged c.entry-len.result a.count a.a a.b a.store.now)
+loop-holds : tie.Need-loop-j-init invariant-loop-j decreases-loop-j
+loop-holds c = let a = (start c).args in (omega arith, none-exchanged c.entry_len-len.result a.count a.a a.b a.store.now)
 
-add-x : tie.Need-overflow-add-x invariant-loop decreases-loop
+add-x : tie.Need-overflow_add-x invariant-loop-j decreases-loop-j
 add-x c = omega (arith, ends c.before.before)
 
-mul-x : tie.Need-overflow-mul-x invariant-loop decreases-loop
+mul-x : tie.Need-offset_bounds-store-at invariant-loop-j decreases-loop-j
 mul-x c = omega (arith, ends c.before.before)
 
-slice-read-x : tie.Need-slice-read-x invariant-loop decreases-loop
-slice-read-x c = omega (arith, ends c.before.before.before, c.before.before.loop.invariant.1.long)
+slice-read-x : tie.Need-bounds-store-at invariant-loop-j decreases-loop-j
+slice-read-x c = omega (arith, ends c.before.before.before, c.loop-j.invariant.1.long)
 
-add-store : tie.Need-overflow-add-store invariant-loop decreases-loop
+add-store : tie.Need-overflow_add-store invariant-loop-j decreases-loop-j
 add-store c = omega (arith, ends c.before.before.before)
 
-mul-store : tie.Need-overflow-mul-store invariant-loop decreases-loop
+mul-store : tie.Need-offset_bounds-store-bt invariant-loop-j decreases-loop-j
 mul-store c = omega (arith, ends c.before.before.before)
 
-slice-read-store : tie.Need-slice-read-store invariant-loop decreases-loop
-slice-read-store c = omega (arith, ends c.before.before.before.before, c.before.before.before.loop.invariant.1.long)
+slice-read-store : tie.Need-bounds-store-bt invariant-loop-j decreases-loop-j
+slice-read-store c = omega (arith, ends c.before.before.before.before, c.loop-j.invariant.1.long)
 
-add-store-2 : tie.Need-overflow-add-store-2 invariant-loop decreases-loop
+add-store-2 : tie.Need-overflow_add-store-in-loop-j invariant-loop-j decreases-loop-j
 add-store-2 c = omega (arith, ends c.before.before.before.before)
 
-mul-store-2 : tie.Need-overflow-mul-store-2 invariant-loop decreases-loop
+mul-store-2 : tie.Need-offset_bounds-store-at-in-loop-j invariant-loop-j decreases-loop-j
 mul-store-2 c = omega (arith, ends c.before.before.before.before)
 
-slice-write-store : tie.Need-slice-write-store invariant-loop decreases-loop
-slice-write-store c = omega (arith, ends c.before.before.before.before, c.before.before.before.loop.invariant.1.long)
+slice-write-store : tie.Need-bounds-store-at-in-loop-j invariant-loop-j decreases-loop-j
+slice-write-store c = omega (arith, ends c.before.before.before.before, c.loop-j.invariant.1.long)
 
-add-store-3 : tie.Need-overflow-add-store-3 invariant-loop decreases-loop
+add-store-3 : tie.Need-overflow_add-store-in-loop-j-2 invariant-loop-j decreases-loop-j
 add-store-3 c = omega (arith, ends c.before.before.before.before)
 
-mul-store-3 : tie.Need-overflow-mul-store-3 invariant-loop decreases-loop
+mul-store-3 : tie.Need-offset_bounds-store-bt-in-loop-j invariant-loop-j decreases-loop-j
 mul-store-3 c = omega (arith, ends c.before.before.before.before)
 
-slice-write-store-2 : tie.Need-slice-write-store-2 invariant-loop decreases-loop
-slice-write-store-2 c = simp length-set (omega (arith, ends c.before.before.before.before, c.before.before.before.loop.invariant.1.long))
+slice-write-store-2 : tie.Need-bounds-store-bt-in-loop-j invariant-loop-j decreases-loop-j
+slice-write-store-2 c = simp length-set (omega (arith, ends c.before.before.before.before, c.loop-j.invariant.1.long))
 
-add-j : tie.Need-overflow-add-j invariant-loop decreases-loop
+add-j : tie.Need-overflow_add-j invariant-loop-j decreases-loop-j
 add-j c = omega (arith, ends c.before.before.before.before)
 
-loop-less : tie.Need-loop-smaller invariant-loop decreases-loop
+loop-less : tie.Need-loop-j-smaller invariant-loop-j decreases-loop-j
 loop-less c = omega arith
 
-loop-again : tie.Need-loop-preserved invariant-loop decreases-loop
+loop-again : tie.Need-loop-j-preserved invariant-loop-j decreases-loop-j
 loop-again c =
-    let l = c.before.before.before in
-    let e = l.before in
-    let a = (start e).args in
-    let p = (start e).requires in (
+    let l = c in
+    let e = l in
+    let a = (start e.before.before.before.before).args in
+    let p = (start e.before.before.before.before).requires in (
       omega arith,
-      one-exchanged e.entry-len.result a.count a.a a.b a.store.now (listed-end e) p.1 p.2 l.loop.j l.loop.store c.before.before.loop-test.true l.loop.invariant.1,
+      one-exchanged e.entry_len-len.result a.count a.a a.b a.store.now (listed-end e.before.before.before.before) p.1 p.2 l.loop-j.j l.loop-j.store c.loop-j-test.true l.loop-j.invariant.1,
     )
 
-same_length : tie.Need-same-length invariant-loop decreases-loop
-same_length c = c.before.loop.invariant.1.long
+same_length : tie.Need-shape_of-store invariant-loop-j decreases-loop-j
+same_length c = c.loop-j.invariant.1.long
 
-returns : tie.Need-returns invariant-loop decreases-loop
+returns : tie.Need-returns invariant-loop-j decreases-loop-j
 returns c =
-    let l = c.before in
-    let e = l.before in
-    let a = (start e).args in
-    let p = (start e).requires in
-    entries-exchanged a.size a.count a.a a.b e.entry-len.result a.store.now p.0 e.entry-len.ensures p.1 p.2 l.loop.j l.loop.store c.loop-test.false l.loop.invariant.1
+    let l = c in
+    let e = l in
+    let a = (start e.before.before).args in
+    let p = (start e.before.before).requires in
+    entries-exchanged a.size a.count a.a a.b e.entry_len-len.result a.store.now p.0 e.entry_len-len.ensures p.1 p.2 l.loop-j.j l.loop-j.store c.loop-j-test.false l.loop-j.invariant.1
 
-pub swap-entries-spec : {M : Type 1} → statement M
-swap-entries-spec =
-    tie.close
-    (tie.spec
-    invariant-loop
-    decreases-loop
+pub swap_entries_spec : {M : Type 1} → statement M
+swap_entries_spec = tie.close (tie.spec
+    invariant-loop-j
+    decreases-loop-j
     entry-len-requires
     mul_at
     mul-bt

@@ -4,56 +4,50 @@ use borrow.Author.Rules.{rules}
 use Rattle.entries_table.proofs.write_head.Statement.{statement}
 use Rattle.entries_table.proofs.write_head.Tie as tie
 
-abbrev invariant-loop : tie.invariant-loop
-invariant-loop list c row₀ at₀ i₀ row at i = i ≤ c.count
+abbrev invariant-loop-i : tie.invariant-loop-i
+invariant-loop-i list c row₀ at₀ i₀ row at i = i ≤ c.count
 
-abbrev decreases-loop : tie.decreases-loop
-decreases-loop list c row₀ at₀ i₀ row at i = c.count - i
+abbrev decreases-loop-i : tie.decreases-loop-i
+decreases-loop-i list c row₀ at₀ i₀ row at i = c.count - i
 
-row-requires : tie.Need-row-requires invariant-loop decreases-loop
+row-requires : tie.Need-row-row-requires invariant-loop-i decreases-loop-i
 row-requires c κs = search rules
 
-slice-aggregate-put-left : tie.Need-slice-aggregate-put-left invariant-loop decreases-loop
-slice-aggregate-put-left c = search rules
-
-put-left-requires : tie.Need-put-left-requires invariant-loop decreases-loop
+put-left-requires : tie.Need-put_left-at-requires invariant-loop-i decreases-loop-i
 put-left-requires c κs = search rules
 
-loop-holds : tie.Need-loop-init invariant-loop decreases-loop
+loop-holds : tie.Need-loop-i-init invariant-loop-i decreases-loop-i
 loop-holds c = search rules
 
-row-requires-2 : tie.Need-row-requires-2 invariant-loop decreases-loop
+row-requires-2 : tie.Need-row-cell-requires invariant-loop-i decreases-loop-i
 row-requires-2 c κs = search rules
 
-put-cutoff-requires : tie.Need-put-cutoff-requires invariant-loop decreases-loop
+put-cutoff-requires : tie.Need-put_cutoff-end-requires invariant-loop-i decreases-loop-i
 put-cutoff-requires c κs = search rules
 
-put-part-requires : tie.Need-put-part-requires invariant-loop decreases-loop
+put-part-requires : tie.Need-put_part-at-requires invariant-loop-i decreases-loop-i
 put-part-requires c κs = search rules
 
-add-i : tie.Need-overflow-add-i invariant-loop decreases-loop
+add-i : tie.Need-overflow_add-i invariant-loop-i decreases-loop-i
 add-i c = search rules
 
-loop-less : tie.Need-loop-smaller invariant-loop decreases-loop
+loop-less : tie.Need-loop-i-smaller invariant-loop-i decreases-loop-i
 loop-less c = search rules
 
-loop-again : tie.Need-loop-preserved invariant-loop decreases-loop
+loop-again : tie.Need-loop-i-preserved invariant-loop-i decreases-loop-i
 loop-again c = search rules
 
-write-requires : tie.Need-write-requires invariant-loop decreases-loop
+write-requires : tie.Need-write-requires invariant-loop-i decreases-loop-i
 write-requires c κs = search rules
 
-returns : tie.Need-returns invariant-loop decreases-loop
+returns : tie.Need-returns invariant-loop-i decreases-loop-i
 returns c = search rules
 
-pub write-head-spec : {M : Type 1} → statement M
-write-head-spec =
-    tie.close
-    (tie.spec
-    invariant-loop
-    decreases-loop
+pub write_head_spec : {M : Type 1} → statement M
+write_head_spec = tie.close (tie.spec
+    invariant-loop-i
+    decreases-loop-i
     row-requires
-    slice-aggregate-put-left
     put-left-requires
     loop-holds
     row-requires-2

@@ -5,16 +5,19 @@ use Rattle.fields.specs.Read.{column}
 use Rattle.fields.proofs.column_of.Statement.{statement}
 use Rattle.fields.proofs.column_of.Tie as tie
 
-returns : tie.Need-returns
+returns : tie.Need-returns-then-v-eq0
 unfolding column
-returns c = rw (eq-eqb _ _ c.if1.true)
+returns c = rw (eq-eqb _ _ c.if-v-eq0.true)
 
-add-result : tie.Need-overflow-add-result
+add-result : tie.Need-overflow_add-result
 add-result c = search rules
 
-returns-2 : tie.Need-returns-2
+returns-2 : tie.Need-returns
 unfolding column
-returns-2 c = rw (ne_eqb _ _ c.if1.false)
+returns-2 c = rw (ne_eqb _ _ c.if-v-eq0.false)
 
-pub column-of-spec : {M : Type 1} → statement M
-column-of-spec = tie.close (tie.spec returns add-result returns-2)
+pub column_of_spec : {M : Type 1} → statement M
+column_of_spec = tie.close (tie.spec
+    returns
+    add-result
+    returns-2)

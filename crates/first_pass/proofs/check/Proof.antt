@@ -7,48 +7,46 @@ use borrow.Author.Rules.{rules}
 use Rattle.first_pass.proofs.check.Statement.{statement}
 use Rattle.first_pass.proofs.check.Tie as tie
 
-abbrev invariant-loop : tie.invariant-loop
-invariant-loop s bytes₀ begun₀ limit c₀ turns₀ bytes begun c turns = length bytes ≡ length bytes₀
+abbrev invariant-loop-turns : tie.invariant-loop-turns
+invariant-loop-turns s bytes₀ begun₀ limit c₀ turns₀ bytes begun c turns = length bytes ≡ length bytes₀
 
-abbrev decreases-loop : tie.decreases-loop
-decreases-loop s bytes₀ begun₀ limit c₀ turns₀ bytes begun c turns = turns
+abbrev decreases-loop-turns : tie.decreases-loop-turns
+decreases-loop-turns s bytes₀ begun₀ limit c₀ turns₀ bytes begun c turns = turns
 
-loop-holds : tie.Need-loop-init invariant-loop decreases-loop
+loop-holds : tie.Need-loop-turns-init invariant-loop-turns decreases-loop-turns
 loop-holds c = search rules
 
-check-line-requires : tie.Need-check-line-requires invariant-loop decreases-loop
+check-line-requires : tie.Need-check_line-c-requires invariant-loop-turns decreases-loop-turns
 check-line-requires c κs = search rules
 
-is-going-requires : tie.Need-is-going-requires invariant-loop decreases-loop
+is-going-requires : tie.Need-is_going-requires invariant-loop-turns decreases-loop-turns
 is-going-requires c κs = search rules
 
-same_length : tie.Need-same-length invariant-loop decreases-loop
+same_length : tie.Need-shape_of-bytes-then-not-is_going invariant-loop-turns decreases-loop-turns
 same_length c = search rules
 
-returns : tie.Need-returns invariant-loop decreases-loop
+returns : tie.Need-returns-then-not-is_going invariant-loop-turns decreases-loop-turns
 returns c = search rules
 
-sub-turns : tie.Need-overflow-sub-turns invariant-loop decreases-loop
+sub-turns : tie.Need-overflow_sub-turns invariant-loop-turns decreases-loop-turns
 sub-turns c = search rules
 
-loop-less : tie.Need-loop-smaller invariant-loop decreases-loop
+loop-less : tie.Need-loop-turns-smaller invariant-loop-turns decreases-loop-turns
 loop-less c = search rules
 
-loop-again : tie.Need-loop-preserved invariant-loop decreases-loop
+loop-again : tie.Need-loop-turns-preserved invariant-loop-turns decreases-loop-turns
 loop-again c = search rules
 
-same-length-2 : tie.Need-same-length-2 invariant-loop decreases-loop
+same-length-2 : tie.Need-shape_of-bytes invariant-loop-turns decreases-loop-turns
 same-length-2 c = search rules
 
-returns-2 : tie.Need-returns-2 invariant-loop decreases-loop
+returns-2 : tie.Need-returns invariant-loop-turns decreases-loop-turns
 returns-2 c = search rules
 
-pub check-spec : {M : Type 1} → statement M
-check-spec =
-    tie.close
-    (tie.spec
-    invariant-loop
-    decreases-loop
+pub check_spec : {M : Type 1} → statement M
+check_spec = tie.close (tie.spec
+    invariant-loop-turns
+    decreases-loop-turns
     loop-holds
     check-line-requires
     is-going-requires

@@ -21,89 +21,89 @@ use Rattle.fresh.proofs.Begun.{slots, refused-size, refused-bounds, empty, one_e
 use Rattle.fresh.proofs.fresh.Statement.{statement}
 use Rattle.fresh.proofs.fresh.Tie as tie
 
-size-sound : (c : tie.Else1) → size_sound c.before.before.before.args.size (length c.before.before.before.args.store.now) ≡ true
-size-sound c = sym c.before.size-sound.ensures ∙ not-false _ c.if1.false
+size-sound : (c : tie.Else-not-size_sound) → size_sound c.args.size (length c.args.store.now) ≡ true
+size-sound c = sym c.size_sound.ensures ∙ not-false _ c.if-not-size_sound.false-raw
 
-bounds-sound : (c : tie.Else2) → bounds_sound c.before.before.before.before.before.args.threshold c.before.before.before.before.before.args.cutoff ≡ true
-bounds-sound c = sym c.before.bounds-sound.ensures ∙ not-false _ c.if2.false
+bounds-sound : (c : tie.Else-not-bounds_sound) → bounds_sound c.args.threshold c.args.cutoff ≡ true
+bounds-sound c = sym c.bounds_sound.ensures ∙ not-false _ c.if-not-bounds_sound.false-raw
 
-shape : (c : tie.Else1) → Sized c.before.before.before.args.size (length c.before.before.before.args.store.now)
+shape : (c : tie.Else-not-size_sound) → Sized c.args.size (length c.args.store.now)
 shape c = sized _ _ (size-sound c)
 
-within : (c : tie.Else1) → Within c.before.before.before.args.size
+within : (c : tie.Else-not-size_sound) → Within c.args.size
 within c = record { qubits = (shape c).qubits.high; coefficients = (shape c).coefficients.high }
 
 -- the first slot is lent whole
-fits : (c : tie.After-entry-len) → c.entry-len.result ≤ length c.before.before.before.before.before.before.before.args.store.now
-fits c = omega (arith, c.entry-len.ensures, slots _ _ (shape c.before.before.before.before))
+fits : (c : tie.After-entry_len-len) → c.entry_len-len.result ≤ length c.args.store.now
+fits c = omega (arith, c.entry_len-len.ensures, slots _ _ (shape c.before.before.before.before))
 
-slot-long : (c : tie.After-entry-len) → length (take c.entry-len.result c.before.before.before.before.before.before.before.args.store.now) ≡ c.entry-len.result
-slot-long c = length-take-le c.entry-len.result c.before.before.before.before.before.before.before.args.store.now (fits c)
+slot-long : (c : tie.After-entry_len-len) → length (take c.entry_len-len.result c.args.store.now) ≡ c.entry_len-len.result
+slot-long c = length-take-le c.entry_len-len.result c.args.store.now (fits c)
 
 -- the entry in the first slot, and 0 past it
 stored : (c : tie.After-clear) →
-    let e = c.before.before.before.before in
-    let n = e.before.before in
-    let a = n.before.before.before.before.before.before.before.args in
-    let w = e.fresh-entry.new.0 ++ drop n.entry-len.result a.store.now in
-    put_mid n.entry-len.result (length w - n.entry-len.result) w c.clear.new.0
+    let e = c in
+    let n = e in
+    let a = n.args in
+    let w = e.fresh_entry.new.e ++ drop n.entry_len-len.result a.store.now in
+    put_mid n.entry_len-len.result (length w - n.entry_len-len.result) w c.clear.new.part
     ≡ words_of (keyed usual_salts a.size.n (fresh_entry a.size)) ++ replicate (length a.store.now - entry_len a.size) 0
 stored c =
-    let e = c.before.before.before.before in
-    let n = e.before.before in
-    let w = n.before.before.before.before.before.before.before.args.store.now in
-    let long : length e.fresh-entry.new.0 ≡ n.entry-len.result = c.before.before.before.store.given.0 ∙ slot-long n in
-    both-put n.entry-len.result w e.fresh-entry.new.0 long e.fresh-entry.ensures
-    (c.clear.ensures ∙ ap (λ (m : ℕ). replicate m 0) (rest-long n.entry-len.result w e.fresh-entry.new.0 long ∙ ap (λ (m : ℕ). length w - m) n.entry-len.ensures))
+    let e = c in
+    let n = e in
+    let w = n.args.store.now in
+    let long : length e.fresh_entry.new.e ≡ n.entry_len-len.result = c.store-1.given.0 ∙ slot-long n.before.before.before.before.before.before in
+    both-put n.entry_len-len.result w e.fresh_entry.new.e long e.fresh_entry.ensures
+    (c.clear.ensures ∙ ap (λ (m : ℕ). replicate m 0) (rest-long n.entry_len-len.result w e.fresh_entry.new.e long ∙ ap (λ (m : ℕ). length w - m) n.entry_len-len.ensures))
 
-size-sound-requires : tie.Need-size-sound-requires
+size-sound-requires : tie.Need-size_sound-requires
 size-sound-requires c κs = search rules
 
-zero-header-requires : tie.Need-zero-header-requires
+zero-header-requires : tie.Need-zero_header-requires
 zero-header-requires c κs = search rules
 
-plain-answer-requires : tie.Need-plain-answer-requires
+plain-answer-requires : tie.Need-plain_answer-requires
 plain-answer-requires c κs = search rules
 
-returns : tie.Need-returns
-returns c = refused-size _ _ _ _ c.plain-answer.ensures c.before.zero-header.ensures (sym c.before.before.before.size-sound.ensures ∙ not-true _ c.before.before.if1.true)
+returns : tie.Need-returns-then-not-size_sound
+returns c = refused-size _ _ _ _ c.plain_answer.ensures c.zero_header.ensures (sym c.size_sound.ensures ∙ not-true _ c.if-not-size_sound.true-raw)
 
-bounds-sound-requires : tie.Need-bounds-sound-requires
+bounds-sound-requires : tie.Need-bounds_sound-requires
 bounds-sound-requires c κs = search rules
 
-zero-header-requires-2 : tie.Need-zero-header-requires-2
+zero-header-requires-2 : tie.Need-zero_header-requires-then-not-bounds_sound
 zero-header-requires-2 c κs = search rules
 
-plain-answer-requires-2 : tie.Need-plain-answer-requires-2
+plain-answer-requires-2 : tie.Need-plain_answer-requires-then-not-bounds_sound
 plain-answer-requires-2 c κs = search rules
 
-returns-2 : tie.Need-returns-2
-returns-2 c = refused-bounds _ _ _ _ c.plain-answer2.ensures c.before.zero-header2.ensures (size-sound c.before.before.before.before) (sym c.before.before.before.bounds-sound.ensures ∙ not-true _ c.before.before.if2.true)
+returns-2 : tie.Need-returns-then-not-bounds_sound
+returns-2 c = refused-bounds _ _ _ _ c.plain_answer-then-not-bounds_sound.ensures c.zero_header-then-not-bounds_sound.ensures (size-sound c.before.before.before.before) (sym c.bounds_sound.ensures ∙ not-true _ c.if-not-bounds_sound.true-raw)
 
-entry-len-requires : tie.Need-entry-len-requires
+entry-len-requires : tie.Need-entry_len-len-requires
 entry-len-requires c κs = within c.before.before.before
 
-slice-relend-prefix-fresh-entry : tie.Need-slice-relend-prefix-fresh-entry
+slice-relend-prefix-fresh-entry : tie.Need-slice_bounds-fresh_entry-end
 slice-relend-prefix-fresh-entry c = fits c
 
-slice-aggregate-fresh-entry : tie.Need-slice-aggregate-fresh-entry
+slice-aggregate-fresh-entry : tie.Need-slice_bounds-fresh_entry-end-then-cutoff
 slice-aggregate-fresh-entry c = sym (slot-long c.before)
 
-fresh-entry-requires : tie.Need-fresh-entry-requires
+fresh-entry-requires : tie.Need-fresh_entry-requires
 fresh-entry-requires c κs =
-    let k = c.before.before.before.before.before in
-    (within k, (shape k).coefficients.low, slot-long c.before ∙ c.before.entry-len.ensures)
+    let k = c in
+    (within k.before.before.before.before.before, (shape k.before.before.before.before.before).coefficients.low, slot-long c.before ∙ c.entry_len-len.ensures)
 
-mul-clear : tie.Need-overflow-mul-clear
+mul-clear : tie.Need-offset_bounds-store-len
 mul-clear c = omega (arith, fits c.before.before.before.before)
 
-sub-clear : tie.Need-overflow-sub-clear
+sub-clear : tie.Need-slice_bounds-clear-count
 sub-clear c = omega (arith, fits c.before.before.before.before)
 
-part-clear-start : tie.Need-slice-bounds-clear-start
+part-clear-start : tie.Need-slice_bounds-clear-start
 part-clear-start c = omega (arith, fits c.before.before.before.before)
 
-part-clear-end : tie.Need-slice-bounds-clear-end
+part-clear-end : tie.Need-slice_bounds-clear-end
 part-clear-end c = search rules
 
 clear-requires : tie.Need-clear-requires
@@ -112,16 +112,16 @@ clear-requires c κs = search rules
 header-requires : tie.Need-header-requires
 header-requires c κs = search rules
 
-plain-answer-requires-3 : tie.Need-plain-answer-requires-3
+plain-answer-requires-3 : tie.Need-plain_answer-requires-then-cutoff
 plain-answer-requires-3 c κs = search rules
 
-same_length : tie.Need-same-length
+same_length : tie.Need-shape_of-store-then-cutoff
 same_length c = search rules
 
-returns-3 : tie.Need-returns-3
+returns-3 : tie.Need-returns-then-cutoff
 returns-3 c =
-    let n = c.before.before.before.before.before.before.before.before.before.before in
-    one_entry _ _ _ _ (size-sound n.before.before.before.before) (bounds-sound n.before.before) c.plain-answer3.ensures c.before.header.ensures (stored c.before.before.before.before) n.before.if3.true
+    let n = c in
+    one_entry _ _ _ _ (size-sound n.before.before.before.before.before.before.before.before.before.before.before.before.before.before) (bounds-sound n.before.before.before.before.before.before.before.before.before.before.before.before) c.plain_answer-then-cutoff.ensures c.header.ensures (stored c.before.before.before.before) n.if-cutoff.true
 
 clear-requires-2 : tie.Need-clear-requires-2
 clear-requires-2 c κs = search rules
@@ -129,21 +129,19 @@ clear-requires-2 c κs = search rules
 header-requires-2 : tie.Need-header-requires-2
 header-requires-2 c κs = search rules
 
-plain-answer-requires-4 : tie.Need-plain-answer-requires-4
+plain-answer-requires-4 : tie.Need-plain_answer-requires-2
 plain-answer-requires-4 c κs = search rules
 
-same-length-2 : tie.Need-same-length-2
+same-length-2 : tie.Need-shape_of-store
 same-length-2 c = search rules
 
-returns-4 : tie.Need-returns-4
+returns-4 : tie.Need-returns
 returns-4 c =
-    let n = c.before.before.before.before.before.before in
-    empty _ _ _ _ (size-sound n.before.before.before) (bounds-sound n.before) c.plain-answer4.ensures c.before.header2.ensures c.before.before.before.before.clear2.ensures n.if3.false
+    let n = c in
+    empty _ _ _ _ (size-sound n.before.before.before.before.before.before.before.before.before) (bounds-sound n.before.before.before.before.before.before.before) c.plain_answer-2.ensures c.header-2.ensures c.clear-2.ensures n.if-cutoff.false
 
-pub fresh-spec : {M : Type 1} → statement M
-fresh-spec =
-    tie.close
-    (tie.spec
+pub fresh_spec : {M : Type 1} → statement M
+fresh_spec = tie.close (tie.spec
     size-sound-requires
     zero-header-requires
     plain-answer-requires

@@ -7,14 +7,17 @@ use Rattle.fresh.proofs.Rows.{one_shl, x-row, z-row}
 use Rattle.fresh.proofs.fresh_x.Statement.{statement}
 use Rattle.fresh.proofs.fresh_x.Tie as tie
 
-shl-result : tie.Need-overflow-shl-result
+shl-result : tie.Need-overflow_shl-result
 shl-result c = search rules
 
-returns : tie.Need-returns
-returns c = one_shl _ (omega arith) ∙ ap (λ (q : Row). q.x) (x-row _ _ c.if1.true)
+returns : tie.Need-returns-then-r-n
+returns c = one_shl _ (omega arith) ∙ ap (λ (q : Row). q.x) (x-row _ _ c.if-r-n.true)
 
-returns-2 : tie.Need-returns-2
-returns-2 c = ap (λ (q : Row). q.x) (z-row _ _ c.if1.false)
+returns-2 : tie.Need-returns
+returns-2 c = ap (λ (q : Row). q.x) (z-row _ _ c.if-r-n.false)
 
-pub fresh-x-spec : {M : Type 1} → statement M
-fresh-x-spec = tie.close (tie.spec shl-result returns returns-2)
+pub fresh_x_spec : {M : Type 1} → statement M
+fresh_x_spec = tie.close (tie.spec
+    shl-result
+    returns
+    returns-2)

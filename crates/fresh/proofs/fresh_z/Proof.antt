@@ -7,14 +7,17 @@ use Rattle.fresh.proofs.Rows.{one_shl, x-row, z-row}
 use Rattle.fresh.proofs.fresh_z.Statement.{statement}
 use Rattle.fresh.proofs.fresh_z.Tie as tie
 
-returns : tie.Need-returns
-returns c = ap (λ (q : Row). q.z) (x-row _ _ c.if1.true)
+returns : tie.Need-returns-then-r-n
+returns c = ap (λ (q : Row). q.z) (x-row _ _ c.if-r-n.true)
 
-shl-result : tie.Need-overflow-shl-result
+shl-result : tie.Need-overflow_shl-result
 shl-result c = search rules
 
-returns-2 : tie.Need-returns-2
-returns-2 c = one_shl _ (omega arith) ∙ ap (λ (q : Row). q.z) (z-row _ _ c.if1.false)
+returns-2 : tie.Need-returns
+returns-2 c = one_shl _ (omega arith) ∙ ap (λ (q : Row). q.z) (z-row _ _ c.if-r-n.false)
 
-pub fresh-z-spec : {M : Type 1} → statement M
-fresh-z-spec = tie.close (tie.spec returns shl-result returns-2)
+pub fresh_z_spec : {M : Type 1} → statement M
+fresh_z_spec = tie.close (tie.spec
+    returns
+    shl-result
+    returns-2)

@@ -14,40 +14,38 @@ use Rattle.gates.proofs.is_live.Tie as tie
 of-case : {t : Bool} {g o : Gate} (loss : ℕ) → g ≡ o → t ≡ all_live loss (gate_qubits o) → t ≡ all_live loss (gate_qubits g)
 of-case loss e p = p ∙ ap (λ (g : Gate). all_live loss (gate_qubits g)) (sym e)
 
-enum-known-gate : tie.Need-enum-known-gate
+enum-known-gate : tie.Need-enum_known-gate
 enum-known-gate c = search rules
 
-is-live-requires : tie.Need-is-live-requires
-is-live-requires c κs = subst (GateBelow 64) c.before.gate.given.1 c.before.before.before.requires
+is-live-requires : tie.Need-is_live-requires
+is-live-requires c κs = subst (GateBelow 64) c.in-H.is c.requires
 
-enum-known-gate-2 : tie.Need-enum-known-gate-2
+enum-known-gate-2 : tie.Need-enum_known-gate-in-S-1
 enum-known-gate-2 c = search rules
 
-is-live-requires-2 : tie.Need-is-live-requires-2
-is-live-requires-2 c κs = subst (GateBelow 64) c.before.gate2.given.1 c.before.before.before.requires
+is-live-requires-2 : tie.Need-is_live-requires-in-S
+is-live-requires-2 c κs = subst (GateBelow 64) c.in-S.is c.requires
 
-enum-known-gate-3 : tie.Need-enum-known-gate-3
+enum-known-gate-3 : tie.Need-enum_known-gate-in-Cnot-1
 enum-known-gate-3 c = search rules
 
-both-live-requires : tie.Need-both-live-requires
-both-live-requires c κs = subst (GateBelow 64) c.before.gate3.given.1 c.before.before.before.requires
+both-live-requires : tie.Need-both_live-requires
+both-live-requires c κs = subst (GateBelow 64) c.in-Cnot.is c.requires
 
-returns : tie.Need-returns
+returns : tie.Need-returns-in-H
 unfolding gate_qubits
-returns c = of-case c.before.before.before.before.args.loss c.before.before.gate.given.1 c.is_live.ensures
+returns c = of-case c.args.loss c.in-H.is c.is_live.ensures
 
-returns-2 : tie.Need-returns-2
+returns-2 : tie.Need-returns-in-S
 unfolding gate_qubits
-returns-2 c = of-case c.before.before.before.before.args.loss c.before.before.gate2.given.1 c.is-live2.ensures
+returns-2 c = of-case c.args.loss c.in-S.is c.is_live-in-S.ensures
 
-returns-3 : tie.Need-returns-3
+returns-3 : tie.Need-returns-in-Cnot
 unfolding gate_qubits
-returns-3 c = of-case c.before.before.before.before.args.loss c.before.before.gate3.given.1 c.both-live.ensures
+returns-3 c = of-case c.args.loss c.in-Cnot.is c.both_live.ensures
 
-pub is-live-spec : {M : Type 1} → statement M
-is-live-spec =
-    tie.close
-    (tie.spec
+pub is_live_spec : {M : Type 1} → statement M
+is_live_spec = tie.close (tie.spec
     enum-known-gate
     is-live-requires
     enum-known-gate-2

@@ -3,11 +3,13 @@ use Rattle.model.proofs.IfSet.{if_set-clear, if_set-set}
 use Rattle.gates.proofs.select.Statement.{statement}
 use Rattle.gates.proofs.select.Tie as tie
 
-returns : tie.Need-returns
-returns c = if_set-clear _ _ c.if1.true
+returns : tie.Need-returns-then-b-eq0
+returns c = if_set-clear _ _ c.if-b-eq0.true
 
-returns-2 : tie.Need-returns-2
-returns-2 c = if_set-set _ _ c.if1.false
+returns-2 : tie.Need-returns-else-b-eq0
+returns-2 c = if_set-set _ _ c.if-b-eq0.false
 
-pub select-spec : {M : Type 1} → statement M
-select-spec = tie.close (tie.spec returns returns-2)
+pub select_spec : {M : Type 1} → statement M
+select_spec = tie.close (tie.spec
+    returns
+    returns-2)

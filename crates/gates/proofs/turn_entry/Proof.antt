@@ -5,51 +5,49 @@ use Rattle.gates.proofs.Entries.{rows-turned, left_alone}
 use Rattle.gates.proofs.turn_entry.Statement.{statement}
 use Rattle.gates.proofs.turn_entry.Tie as tie
 
-mul-rows : tie.Need-overflow-mul-rows
+mul-rows : tie.Need-overflow_mul-rows
 mul-rows c = search rules
 
-add-rows : tie.Need-overflow-add-rows
+add-rows : tie.Need-overflow_add-rows
 add-rows c = search rules
 
-slice-read-is-live : tie.Need-slice-read-is-live
+slice-read-is-live : tie.Need-bounds-e-1
 slice-read-is-live c = search rules
 
-is-live-requires : tie.Need-is-live-requires
+is-live-requires : tie.Need-is_live-requires
 is-live-requires c κs = search rules
 
-mul-turn-rows : tie.Need-overflow-mul-turn-rows
+mul-turn-rows : tie.Need-offset_bounds-e-rows
 mul-turn-rows c = search rules
 
-sub-turn-rows : tie.Need-overflow-sub-turn-rows
+sub-turn-rows : tie.Need-slice_bounds-turn_rows-count
 sub-turn-rows c = search rules
 
-part-turn-rows-start : tie.Need-slice-bounds-turn-rows-start
+part-turn-rows-start : tie.Need-slice_bounds-turn_rows-start
 part-turn-rows-start c = search rules
 
-part-turn-rows-end : tie.Need-slice-bounds-turn-rows-end
+part-turn-rows-end : tie.Need-slice_bounds-turn_rows-end
 part-turn-rows-end c = search rules
 
-turn-rows-requires : tie.Need-turn-rows-requires
+turn-rows-requires : tie.Need-turn_rows-requires
 turn-rows-requires c κs = search rules
 
-same_length : tie.Need-same-length
+same_length : tie.Need-shape_of-e
 same_length c = search rules
 
-returns : tie.Need-returns
+returns : tie.Need-returns-then-is_live
 returns c =
-    let t = c.before.before.before.before in
-    let b = t.before.before.before.before.before in
-    rows-turned b.args.size b.args.gate b.args.e.now b.requires.1 (sym t.before.is_live.ensures ∙ t.if1.true) c.before.before.turn-rows.ensures
+    let t = c in
+    let b = t in
+    rows-turned b.args.size b.args.gate b.args.e.now b.requires.1 (sym t.is_live.ensures ∙ t.if-is_live.true) c.turn_rows.ensures
 
-returns-2 : tie.Need-returns-2
+returns-2 : tie.Need-returns-else-is_live
 returns-2 c =
-    let b = c.before.before.before.before.before in
-    left_alone b.args.size b.args.gate b.args.e.now b.requires.1 (sym c.before.is_live.ensures ∙ c.if1.false)
+    let b = c in
+    left_alone b.args.size b.args.gate b.args.e.now b.requires.1 (sym c.is_live.ensures ∙ c.if-is_live.false)
 
-pub turn-entry-spec : {M : Type 1} → statement M
-turn-entry-spec =
-    tie.close
-    (tie.spec
+pub turn_entry_spec : {M : Type 1} → statement M
+turn_entry_spec = tie.close (tie.spec
     mul-rows
     add-rows
     slice-read-is-live

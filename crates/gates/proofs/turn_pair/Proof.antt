@@ -5,42 +5,40 @@ use borrow.Author.Rules.{rules}
 use Rattle.gates.proofs.turn_pair.Statement.{statement}
 use Rattle.gates.proofs.turn_pair.Tie as tie
 
-sub-turn-row : tie.Need-overflow-sub-turn-row
+sub-turn-row : tie.Need-slice_bounds-turn_row-count
 sub-turn-row c = search rules
 
-part-turn-row-start : tie.Need-slice-bounds-turn-row-start
+part-turn-row-start : tie.Need-slice_bounds-turn_row-start
 part-turn-row-start c = search rules
 
-part-turn-row-end : tie.Need-slice-bounds-turn-row-end
+part-turn-row-end : tie.Need-slice_bounds-turn_row-end
 part-turn-row-end c = search rules
 
-turn-row-requires : tie.Need-turn-row-requires
+turn-row-requires : tie.Need-turn_row-requires
 turn-row-requires c κs = search rules
 
-sub-turn-row-2 : tie.Need-overflow-sub-turn-row-2
+sub-turn-row-2 : tie.Need-slice_bounds-turn_row-count-2
 sub-turn-row-2 c = search rules
 
-part-turn-row-start-2 : tie.Need-slice-bounds-turn-row-start-2
+part-turn-row-start-2 : tie.Need-slice_bounds-turn_row-start-2
 part-turn-row-start-2 c = search rules
 
-part-turn-row-end-2 : tie.Need-slice-bounds-turn-row-end-2
+part-turn-row-end-2 : tie.Need-slice_bounds-turn_row-end-2
 part-turn-row-end-2 c = search rules
 
-turn-row-requires-2 : tie.Need-turn-row-requires-2
+turn-row-requires-2 : tie.Need-turn_row-requires-2
 turn-row-requires-2 c κs = search rules
 
-same_length : tie.Need-same-length
+same_length : tie.Need-shape_of-pair
 same_length c = search rules
 
 returns : tie.Need-returns
 returns c =
-    let b = c.before.before.before.before.before.before.before.before.before in
-    pair-turned (turned_row b.args.gate) b.args.pair.now b.requires.0 c.before.before.before.before.before.before.turn-row.ensures c.before.before.turn-row2.ensures
+    let b = c in
+    pair-turned (turned_row b.args.gate) b.args.pair.now b.requires.0 c.turn_row.ensures c.turn_row-2.ensures
 
-pub turn-pair-spec : {M : Type 1} → statement M
-turn-pair-spec =
-    tie.close
-    (tie.spec
+pub turn_pair_spec : {M : Type 1} → statement M
+turn_pair_spec = tie.close (tie.spec
     sub-turn-row
     part-turn-row-start
     part-turn-row-end

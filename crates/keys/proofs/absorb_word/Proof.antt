@@ -4,7 +4,7 @@ use Rattle.std.proofs.Common.{rules}
 use Rattle.keys.proofs.absorb_word.Statement.{statement}
 use Rattle.keys.proofs.absorb_word.Tie as tie
 
-wrapping-add-u64-requires : tie.Need-wrapping-add-u64-requires
+wrapping-add-u64-requires : tie.Need-wrapping_add_u64-requires
 wrapping-add-u64-requires c κs = search rules
 
 finalize-requires : tie.Need-finalize-requires
@@ -14,5 +14,8 @@ returns : tie.Need-returns
 unfolding absorb
 returns c = cc
 
-pub absorb-word-spec : {M : Type 1} → statement M
-absorb-word-spec = tie.close (tie.spec wrapping-add-u64-requires finalize-requires returns)
+pub absorb_word_spec : {M : Type 1} → statement M
+absorb_word_spec = tie.close (tie.spec
+    wrapping-add-u64-requires
+    finalize-requires
+    returns)

@@ -4,15 +4,18 @@ use Rattle.std.proofs.Common.{rules}
 use Rattle.keys.proofs.finalize.Statement.{statement}
 use Rattle.keys.proofs.finalize.Tie as tie
 
-wrapping-mul-requires : tie.Need-wrapping-mul-requires
+wrapping-mul-requires : tie.Need-wrapping_mul-a-requires
 wrapping-mul-requires c κs = search rules
 
-wrapping-mul-requires-2 : tie.Need-wrapping-mul-requires-2
+wrapping-mul-requires-2 : tie.Need-wrapping_mul-b-requires
 wrapping-mul-requires-2 c κs = search rules
 
 returns : tie.Need-returns
 unfolding shift_xor mix
 returns c = cc
 
-pub finalize-spec : {M : Type 1} → statement M
-finalize-spec = tie.close (tie.spec wrapping-mul-requires wrapping-mul-requires-2 returns)
+pub finalize_spec : {M : Type 1} → statement M
+finalize_spec = tie.close (tie.spec
+    wrapping-mul-requires
+    wrapping-mul-requires-2
+    returns)

@@ -6,44 +6,42 @@ use Rattle.keys.proofs.Tables.{none-lost}
 use Rattle.keys.proofs.loss_key.Statement.{statement}
 use Rattle.keys.proofs.loss_key.Tie as tie
 
-abbrev invariant-loop : tie.invariant-loop
-invariant-loop salts n loss h₀ q₀ h q = (q ≤ n) × (h ≡ mask_xor salts.loss q (λ j. bit j loss))
+abbrev invariant-loop-q : tie.invariant-loop-q
+invariant-loop-q salts n loss h₀ q₀ h q = (q ≤ n) × (h ≡ mask_xor salts.loss q (λ j. bit j loss))
 
-abbrev decreases-loop : tie.decreases-loop
-decreases-loop salts n loss h₀ q₀ h q = n - q
+abbrev decreases-loop-q : tie.decreases-loop-q
+decreases-loop-q salts n loss h₀ q₀ h q = n - q
 
-returns : tie.Need-returns invariant-loop decreases-loop
-returns c = none-lost c.before.args.salts.loss c.before.args.n c.before.args.loss c.if1.true
+returns : tie.Need-returns-then-loss-eq0 invariant-loop-q decreases-loop-q
+returns c = none-lost c.args.salts.loss c.args.n c.args.loss c.if-loss-eq0.true
 
-loop-holds : tie.Need-loop-init invariant-loop decreases-loop
+loop-holds : tie.Need-loop-q-init invariant-loop-q decreases-loop-q
 loop-holds c = (omega arith, mask_xor-none _ _)
 
-shr-masked : tie.Need-overflow-shr-masked invariant-loop decreases-loop
+shr-masked : tie.Need-overflow_shr-loss invariant-loop-q decreases-loop-q
 shr-masked c = omega arith
 
-masked-requires : tie.Need-masked-requires invariant-loop decreases-loop
+masked-requires : tie.Need-masked-h-requires invariant-loop-q decreases-loop-q
 masked-requires c κs = search rules
 
-add-q : tie.Need-overflow-add-q invariant-loop decreases-loop
+add-q : tie.Need-overflow_add-q invariant-loop-q decreases-loop-q
 add-q c = omega arith
 
-loop-less : tie.Need-loop-smaller invariant-loop decreases-loop
+loop-less : tie.Need-loop-q-smaller invariant-loop-q decreases-loop-q
 loop-less c = omega arith
 
-loop-again : tie.Need-loop-preserved invariant-loop decreases-loop
-loop-again c = (omega arith, mask_xor-next _ _ _ c.before.before.loop.invariant.1 c.masked.ensures)
+loop-again : tie.Need-loop-q-preserved invariant-loop-q decreases-loop-q
+loop-again c = (omega arith, mask_xor-next _ _ _ c.loop-q.invariant.1 c.masked-h.ensures)
 
-returns-2 : tie.Need-returns-2 invariant-loop decreases-loop
+returns-2 : tie.Need-returns invariant-loop-q decreases-loop-q
 returns-2 c =
-    let e : c.before.loop.q ≡ c.before.before.before.args.n = omega arith in
+    let e : c.loop-q.q ≡ c.args.n = omega arith in
     cc
 
-pub loss-key-spec : {M : Type 1} → statement M
-loss-key-spec =
-    tie.close
-    (tie.spec
-    invariant-loop
-    decreases-loop
+pub loss_key_spec : {M : Type 1} → statement M
+loss_key_spec = tie.close (tie.spec
+    invariant-loop-q
+    decreases-loop-q
     returns
     loop-holds
     shr-masked

@@ -4,14 +4,17 @@ use Rattle.model.proofs.IfSet.{if_set-clear, if_set-set}
 use Rattle.keys.proofs.masked.Statement.{statement}
 use Rattle.keys.proofs.masked.Tie as tie
 
-row-mask-requires : tie.Need-row-mask-requires
+row-mask-requires : tie.Need-row_mask-requires
 row-mask-requires c κs = search rules
 
-returns : tie.Need-returns
-returns c = if_set-clear _ _ c.if1.true
+returns : tie.Need-returns-then-b-eq0
+returns c = if_set-clear _ _ c.if-b-eq0.true
 
-returns-2 : tie.Need-returns-2
-returns-2 c = c.row-mask.ensures ∙ if_set-set _ _ c.before.if1.false
+returns-2 : tie.Need-returns-else-b-eq0
+returns-2 c = c.row_mask.ensures ∙ if_set-set _ _ c.if-b-eq0.false
 
-pub masked-spec : {M : Type 1} → statement M
-masked-spec = tie.close (tie.spec row-mask-requires returns returns-2)
+pub masked_spec : {M : Type 1} → statement M
+masked_spec = tie.close (tie.spec
+    row-mask-requires
+    returns
+    returns-2)

@@ -5,19 +5,22 @@ use Rattle.model.specs.Keys.{phase_loss_key}
 use Rattle.keys.proofs.phase_loss_key_from.Statement.{statement}
 use Rattle.keys.proofs.phase_loss_key_from.Tie as tie
 
-mul-phase-part-from : tie.Need-overflow-mul-phase-part-from
+mul-phase-part-from : tie.Need-overflow_mul-n
 mul-phase-part-from c = search rules
 
-phase-part-from-requires : tie.Need-phase-part-from-requires
+phase-part-from-requires : tie.Need-phase_part_from-requires
 phase-part-from-requires c κs = search rules
 
-loss-key-requires : tie.Need-loss-key-requires
+loss-key-requires : tie.Need-loss_key-requires
 loss-key-requires c κs = search rules
 
 returns : tie.Need-returns
 unfolding phase_loss_key
-returns c = ap₂ bit_xor (c.before.phase-part-from.ensures c.before.before.before.args.salts c.before.before.before.requires.0) c.loss-key.ensures
+returns c = ap₂ bit_xor (c.phase_part_from.ensures c.args.salts c.requires.0) c.loss_key.ensures
 
-pub phase-loss-key-from-spec : {M : Type 1} → statement M
-phase-loss-key-from-spec =
-    tie.close (tie.spec mul-phase-part-from phase-part-from-requires loss-key-requires returns)
+pub phase_loss_key_from_spec : {M : Type 1} → statement M
+phase_loss_key_from_spec = tie.close (tie.spec
+    mul-phase-part-from
+    phase-part-from-requires
+    loss-key-requires
+    returns)

@@ -12,7 +12,10 @@ masked-requires-2 c κs = search rules
 
 returns : tie.Need-returns
 unfolding phase_mask
-returns c = cc (div-one c.before.before.args.phase)
+returns c = cc (div-one c.args.phase)
 
-pub phase-mask-spec : {M : Type 1} → statement M
-phase-mask-spec = tie.close (tie.spec masked-requires masked-requires-2 returns)
+pub phase_mask_spec : {M : Type 1} → statement M
+phase_mask_spec = tie.close (tie.spec
+    masked-requires
+    masked-requires-2
+    returns)

@@ -5,10 +5,10 @@ use Rattle.model.specs.Keys.{golden, row_mask}
 use Rattle.keys.proofs.row_mask.Statement.{statement}
 use Rattle.keys.proofs.row_mask.Tie as tie
 
-wrapping-mul-requires : tie.Need-wrapping-mul-requires
+wrapping-mul-requires : tie.Need-wrapping_mul-requires
 wrapping-mul-requires c κs = search rules
 
-wrapping-add-u64-requires : tie.Need-wrapping-add-u64-requires
+wrapping-add-u64-requires : tie.Need-wrapping_add_u64-requires
 wrapping-add-u64-requires c κs = search rules
 
 finalize-requires : tie.Need-finalize-requires
@@ -16,8 +16,11 @@ finalize-requires c κs = search rules
 
 returns : tie.Need-returns
 unfolding row_mask
-returns c = cc (mod-add-mod (c.before.before.before.args.index * golden) (2 ^ 64) c.before.before.before.args.salt)
+returns c = cc (mod-add-mod (c.args.index * golden) (2 ^ 64) c.args.salt)
 
-pub row-mask-spec : {M : Type 1} → statement M
-row-mask-spec =
-    tie.close (tie.spec wrapping-mul-requires wrapping-add-u64-requires finalize-requires returns)
+pub row_mask_spec : {M : Type 1} → statement M
+row_mask_spec = tie.close (tie.spec
+    wrapping-mul-requires
+    wrapping-add-u64-requires
+    finalize-requires
+    returns)

@@ -7,5 +7,6 @@ use Rattle.likeness.proofs.finite_bits.Tie as tie
 returns : tie.Need-returns
 returns c = finite-bits c.args.w (search rules)
 
-pub finite-bits-spec : {M : Type 1} → statement M
-finite-bits-spec = tie.close (tie.spec returns)
+pub finite_bits_spec : {M : Type 1} → statement M
+finite_bits_spec = tie.close (tie.spec
+    returns)

@@ -6,41 +6,39 @@ use Rattle.likeness.proofs.Near.{same_none, same_more}
 use Rattle.likeness.proofs.leading_same.Statement.{statement}
 use Rattle.likeness.proofs.leading_same.Tie as tie
 
-abbrev invariant-loop : tie.invariant-loop
-invariant-loop existing other count j₀ j = (j ≤ count) × SameBelow existing other j
+abbrev invariant-loop-j : tie.invariant-loop-j
+invariant-loop-j existing other count j₀ j = (j ≤ count) × SameBelow existing other j
 
-abbrev decreases-loop : tie.decreases-loop
-decreases-loop existing other count j₀ j = count - j
+abbrev decreases-loop-j : tie.decreases-loop-j
+decreases-loop-j existing other count j₀ j = count - j
 
-loop-holds : tie.Need-loop-init invariant-loop decreases-loop
+loop-holds : tie.Need-loop-j-init invariant-loop-j decreases-loop-j
 loop-holds c = (search rules, same_none _ _)
 
-same-finite-requires : tie.Need-same-finite-requires invariant-loop decreases-loop
+same-finite-requires : tie.Need-same_finite-requires invariant-loop-j decreases-loop-j
 same-finite-requires c κs = search rules
 
-add-j : tie.Need-overflow-add-j invariant-loop decreases-loop
+add-j : tie.Need-overflow_add-j invariant-loop-j decreases-loop-j
 add-j c = search rules
 
-loop-less : tie.Need-loop-smaller invariant-loop decreases-loop
+loop-less : tie.Need-loop-j-smaller invariant-loop-j decreases-loop-j
 loop-less c = search rules
 
-loop-again : tie.Need-loop-preserved invariant-loop decreases-loop
+loop-again : tie.Need-loop-j-preserved invariant-loop-j decreases-loop-j
 loop-again c =
-    let l = c.before.before.before.loop in
-    (search rules, same_more _ _ _ l.invariant.1 (c.before.same-finite.ensures c.if1.true))
+    let l = c.loop-j in
+    (search rules, same_more _ _ _ l.invariant.1 (c.same_finite.ensures c.if-same_finite.true))
 
-returns : tie.Need-returns invariant-loop decreases-loop
-returns c = c.before.before.before.loop.invariant
+returns : tie.Need-returns-else-same_finite invariant-loop-j decreases-loop-j
+returns c = c.loop-j.invariant
 
-returns-2 : tie.Need-returns-2 invariant-loop decreases-loop
-returns-2 c = c.before.loop.invariant
+returns-2 : tie.Need-returns invariant-loop-j decreases-loop-j
+returns-2 c = c.loop-j.invariant
 
-pub leading-same-spec : {M : Type 1} → statement M
-leading-same-spec =
-    tie.close
-    (tie.spec
-    invariant-loop
-    decreases-loop
+pub leading_same_spec : {M : Type 1} → statement M
+leading_same_spec = tie.close (tie.spec
+    invariant-loop-j
+    decreases-loop-j
     loop-holds
     same-finite-requires
     add-j

@@ -8,7 +8,7 @@ use Rattle.merging.specs.Progress.{lost_by}
 use Rattle.merging.proofs.answer.Statement.{statement}
 use Rattle.merging.proofs.answer.Tie as tie
 
-header-with-requires : tie.Need-header-with-requires
+header-with-requires : tie.Need-header_with-requires
 header-with-requires c κs = search rules
 
 answer-requires : tie.Need-answer-requires
@@ -16,9 +16,12 @@ answer-requires c κs = search rules
 
 returns : tie.Need-returns
 returns c =
-    let p = c.before.before.args.p in
+    let p = c.args.p in
     let counts : Counts = record { merged = p.merged; stored = p.stored; dropped = p.dropped; compared = p.compared } in
-    c.answer.ensures ∙ ap (λ (k : Header). answer_of 0 k counts (lost_by p c.before.before.args.truncated) 0 0) c.before.header-with.ensures
+    c.answer.ensures ∙ ap (λ (k : Header). answer_of 0 k counts (lost_by p c.args.truncated) 0 0) c.header_with.ensures
 
-pub answer-spec : {M : Type 1} → statement M
-answer-spec = tie.close (tie.spec header-with-requires answer-requires returns)
+pub answer_spec : {M : Type 1} → statement M
+answer_spec = tie.close (tie.spec
+    header-with-requires
+    answer-requires
+    returns)

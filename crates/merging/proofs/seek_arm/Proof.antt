@@ -12,31 +12,34 @@ use borrow.Author.Rules.{rules}
 use Rattle.merging.proofs.seek_arm.Statement.{statement}
 use Rattle.merging.proofs.seek_arm.Tie as tie
 
-first-place-requires : tie.Need-first-place-requires
+first-place-requires : tie.Need-first_place-requires
 first-place-requires c κs = search rules
 
-returns : tie.Need-returns
+returns : tie.Need-returns-then-count-first_place
 returns c =
-    let s = c.before.before.before in
+    let s = c in
     let a = s.args in
     rw (gathered-listed a.size a.count a.store.now) at
     (nowhere a.size a.threshold (changed_keyed usual_salts a.size.n (mutation_of a.branch) (entry_of a.size (stretch a.size a.store.now a.branch.parent))) a.count (seen_at a.size [] a.store.now) a.keys.now a.firsts.now s.requires.0.3 a.key s.requires.1.3
-    (omega (arith, c.if1.true, c.before.first-place.ensures)))
+    (omega (arith, c.if-count-first_place.true, c.first_place.ensures)))
 
-mutation-at-requires : tie.Need-mutation-at-requires
-mutation-at-requires c κs = c.before.before.before.requires.1.2.few
+mutation-at-requires : tie.Need-mutation_at-mutation-requires
+mutation-at-requires c κs = c.requires.1.2.few
 
-seek-listed-requires : tie.Need-seek-listed-requires
+seek-listed-requires : tie.Need-seek_listed-requires
 seek-listed-requires c κs =
-    let s = c.before.before.before.before.before in
+    let s = c in
     let b = s.requires.1 in
-    let m = c.before.mutation-at.ensures in
+    let m = c.mutation_at-mutation.ensures in
     (s.requires.0, record { inside = b.0; few = b.1; below = rw m b.2.below; key = rw m b.3; change = rw m b.2.change })
 
-returns-2 : tie.Need-returns-2
-returns-2 c = rw c.before.before.mutation-at.ensures at c.seek-listed.ensures
+returns-2 : tie.Need-returns
+returns-2 c = rw c.mutation_at-mutation.ensures at c.seek_listed.ensures
 
-pub seek-arm-spec : {M : Type 1} → statement M
-seek-arm-spec =
-    tie.close
-    (tie.spec first-place-requires returns mutation-at-requires seek-listed-requires returns-2)
+pub seek_arm_spec : {M : Type 1} → statement M
+seek_arm_spec = tie.close (tie.spec
+    first-place-requires
+    returns
+    mutation-at-requires
+    seek-listed-requires
+    returns-2)

@@ -7,44 +7,42 @@ use Rattle.words.proofs.Copied.{copied_next, copied-end}
 use Rattle.nearest.proofs.copy.Statement.{statement}
 use Rattle.nearest.proofs.copy.Tie as tie
 
-abbrev invariant-loop : tie.invariant-loop
-invariant-loop to₀ from j₀ to j = (j ≤ length from) × (length to ≡ length from) × (take j to ≡ take j from)
+abbrev invariant-loop-j : tie.invariant-loop-j
+invariant-loop-j to₀ from j₀ to j = (j ≤ length from) × (length to ≡ length from) × (take j to ≡ take j from)
 
-abbrev decreases-loop : tie.decreases-loop
-decreases-loop to₀ from j₀ to j = length from - j
+abbrev decreases-loop-j : tie.decreases-loop-j
+decreases-loop-j to₀ from j₀ to j = length from - j
 
-loop-holds : tie.Need-loop-init invariant-loop decreases-loop
+loop-holds : tie.Need-loop-j-init invariant-loop-j decreases-loop-j
 loop-holds c = (omega arith, omega arith, refl)
 
-shared-slice-read-to : tie.Need-shared-slice-read-to invariant-loop decreases-loop
+shared-slice-read-to : tie.Need-bounds-from-j invariant-loop-j decreases-loop-j
 shared-slice-read-to c = omega arith
 
-slice-write-to : tie.Need-slice-write-to invariant-loop decreases-loop
+slice-write-to : tie.Need-bounds-to-j invariant-loop-j decreases-loop-j
 slice-write-to c = omega arith
 
-add-j : tie.Need-overflow-add-j invariant-loop decreases-loop
+add-j : tie.Need-overflow_add-j invariant-loop-j decreases-loop-j
 add-j c = omega arith
 
-loop-less : tie.Need-loop-smaller invariant-loop decreases-loop
+loop-less : tie.Need-loop-j-smaller invariant-loop-j decreases-loop-j
 loop-less c = omega arith
 
-loop-again : tie.Need-loop-preserved invariant-loop decreases-loop
+loop-again : tie.Need-loop-j-preserved invariant-loop-j decreases-loop-j
 loop-again c =
-    let l = c.before.before.loop in
-    (omega arith, simp length-set (omega arith), copied_next l.to _ l.j (omega arith) c.before.loop-test.true l.invariant.2)
+    let l = c.loop-j in
+    (omega arith, simp length-set (omega arith), copied_next l.to _ l.j (omega arith) c.loop-j-test.true l.invariant.2)
 
-same_length : tie.Need-same-length invariant-loop decreases-loop
+same_length : tie.Need-shape_of-to invariant-loop-j decreases-loop-j
 same_length c = omega arith
 
-returns : tie.Need-returns invariant-loop decreases-loop
-returns c = copied-end _ _ c.before.loop.j (omega arith) (omega arith) c.before.loop.invariant.2
+returns : tie.Need-returns invariant-loop-j decreases-loop-j
+returns c = copied-end _ _ c.loop-j.j (omega arith) (omega arith) c.loop-j.invariant.2
 
 pub copy_spec : {M : Type 1} → statement M
-copy_spec =
-    tie.close
-    (tie.spec
-    invariant-loop
-    decreases-loop
+copy_spec = tie.close (tie.spec
+    invariant-loop-j
+    decreases-loop-j
     loop-holds
     shared-slice-read-to
     slice-write-to

@@ -11,23 +11,27 @@ use Rattle.nearest.proofs.denominator.Tie as tie
 
 put-requires : tie.Need-put-requires
 put-requires c κs =
-    let s = c.before.before in
+    let s = c in
     fewer (2 ^ 53) (10 ^ s.args.down) (256 ^ length s.args.v.now) (one-le-pow s.args.down 10 (omega arith)) s.requires
 
 grouped-requires : tie.Need-grouped-requires
 grouped-requires c κs =
-    let p = c.before.before.before in
-    ((omega arith, omega arith, omega arith, omega arith, refl), rw (p.put.ensures, p.put.auto.0) p.before.before.before.requires)
+    let p = c in
+    ((omega arith, omega arith, omega arith, omega arith, refl), rw (p.put.ensures, p.put.auto.a) p.requires)
 
-same_length : tie.Need-same-length
+same_length : tie.Need-shape_of-v
 same_length c = search rules
 
 returns : tie.Need-returns
 returns c =
-    let r = c.before.before in
-    let p = r.before.before.before.before in
-    let t = 10 ^ p.before.before.before.args.down in
+    let r = c in
+    let p = r in
+    let t = 10 ^ p.args.down in
     r.grouped.ensures ∙ ap (λ (v : ℕ). v * t) p.put.ensures ∙ mul_comm (2 ^ 53) t
 
-pub denominator-spec : {M : Type 1} → statement M
-denominator-spec = tie.close (tie.spec put-requires grouped-requires same_length returns)
+pub denominator_spec : {M : Type 1} → statement M
+denominator_spec = tie.close (tie.spec
+    put-requires
+    grouped-requires
+    same_length
+    returns)

@@ -17,33 +17,40 @@ infinite : div binary64 (of_bits binary64 0x3ff0_0000_0000_0000) (of_bits binary
 unfolding div of_bits
 infinite = refl
 
-small-times-requires : tie.Need-small-times-requires
+small-times-requires : tie.Need-small_times-requires
 small-times-requires c κs = search rules
 
-returns : tie.Need-returns
+returns : tie.Need-returns-then-up-le22
 returns c = search rules
 
-returns-2 : tie.Need-returns-2
+returns-2 : tie.Need-returns-then-m-eq0
 returns-2 c =
-    let a = c.before.before.args in
-    zero-rounded (a.m * 10 ^ a.up) 1 (ap (λ (z : ℕ). z * 10 ^ a.up) c.if3.true ∙ zero-mul (10 ^ a.up)) (omega arith)
+    let a = c.args in
+    zero-rounded (a.m * 10 ^ a.up) 1 (ap (λ (z : ℕ). z * 10 ^ a.up) c.if-m-eq0.true ∙ zero-mul (10 ^ a.up)) (omega arith)
 
-returns-3 : tie.Need-returns-3
+returns-3 : tie.Need-returns-then-up-gt308
 returns-3 c =
-    let a = c.before.before.before.args in
-    infinite ∙ sym (too-far-up a.m a.up (lt_of_le-ne (omega arith) (λ e. c.before.if3.false (sym e))) c.if4.true)
+    let a = c.args in
+    infinite ∙ sym (too-far-up a.m a.up (lt_of_le-ne (omega arith) (λ e. c.if-m-eq0.false (sym e))) c.if-up-gt308.true)
 
 exact-requires : tie.Need-exact-requires
 exact-requires c κs = search rules
 
-float-of-requires : tie.Need-float-of-requires
+float-of-requires : tie.Need-float_of-requires
 float-of-requires c κs = search rules
 
-returns-4 : tie.Need-returns-4
+returns-4 : tie.Need-returns
 returns-4 c =
-    let x = c.before in
-    let a = x.before.before.before.before.args in
+    let x = c in
+    let a = x.args in
     c.float_of.ensures ∙ read_back (a.m * 10 ^ a.up) 1 x.exact.result x.exact.ensures
 
-pub multiplied-spec : {M : Type 1} → statement M
-multiplied-spec = tie.close (tie.spec small-times-requires returns returns-2 returns-3 exact-requires float-of-requires returns-4)
+pub multiplied_spec : {M : Type 1} → statement M
+multiplied_spec = tie.close (tie.spec
+    small-times-requires
+    returns
+    returns-2
+    returns-3
+    exact-requires
+    float-of-requires
+    returns-4)

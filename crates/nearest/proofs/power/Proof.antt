@@ -21,11 +21,8 @@ powers =
     0x426d_1a94_a200_0000 ∷ 0x42a2_309c_e540_0000 ∷ 0x42d6_bcc4_1e90_0000 ∷ 0x430c_6bf5_2634_0000 ∷ 0x4341_c379_37e0_8000 ∷ 0x4376_3457_85d8_a000 ∷
     0x43ab_c16d_674e_c800 ∷ 0x43e1_58e4_6091_3d00 ∷ 0x4415_af1d_78b5_8c40 ∷ 0x444b_1ae4_d6e2_ef50 ∷ 0x4480_f0cf_064d_d592 ∷ [])
 
-mul-result : tie.Need-overflow-mul-result
+mul-result : tie.Need-offset_bounds-k
 mul-result c = search rules
-
-array-read-result : tie.Need-array-read-result
-array-read-result c = search rules
 
 returns : tie.Need-returns
 unfolding exactly tenfold of_bits
@@ -33,5 +30,11 @@ returns c =
     let k = c.args.k in
     subst (λ (n : ℕ). HasValue (get_or powers k nan) false n 1) (one-mul (10 ^ k)) (power_at 1 powers nan refl k (search rules))
 
-pub power-spec : {M : Type 1} → statement M
-power-spec = tie.close (tie.spec mul-result array-read-result returns)
+new-bounds-k : tie.Need-bounds-k
+new-bounds-k c = search rules
+
+pub power_spec : {M : Type 1} → statement M
+power_spec = tie.close (tie.spec
+    mul-result
+    new-bounds-k
+    returns)

@@ -4,17 +4,21 @@ use borrow.Author.Rules.{rules}
 use Rattle.noise.proofs.renormalise.Statement.{statement}
 use Rattle.noise.proofs.renormalise.Tie as tie
 
-normalise-entries-requires : tie.Need-normalise-entries-requires
+normalise-entries-requires : tie.Need-normalise_entries-requires
 normalise-entries-requires c κs = search rules
 
-same_length : tie.Need-same-length
+same_length : tie.Need-shape_of-store-then-p-gt0
 same_length c = search rules
 
-returns : tie.Need-returns
-returns c = some-dropped c.before.before.before.before.before.before.before.args.size c.before.before.before.before.before.before.before.args.p c.before.before.before.before.before.before.before.args.store.now c.before.before.before.before.if1.true c.before.before.normalise-entries.ensures
+returns : tie.Need-returns-then-p-gt0
+returns c = some-dropped c.args.size c.args.p c.args.store.now c.if-p-gt0.true c.normalise_entries.ensures
 
-returns-2 : tie.Need-returns-2
-returns-2 c = none_dropped c.before.before.before.args.size c.before.before.before.args.p c.before.before.before.args.store.now c.if1.false c.before.before.before.requires
+returns-2 : tie.Need-returns
+returns-2 c = none_dropped c.args.size c.args.p c.args.store.now c.if-p-gt0.false c.requires
 
-pub renormalise-spec : {M : Type 1} → statement M
-renormalise-spec = tie.close (tie.spec normalise-entries-requires same_length returns returns-2)
+pub renormalise_spec : {M : Type 1} → statement M
+renormalise_spec = tie.close (tie.spec
+    normalise-entries-requires
+    same_length
+    returns
+    returns-2)

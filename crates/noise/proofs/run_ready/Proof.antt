@@ -11,89 +11,87 @@ use Rattle.noise.proofs.run_ready.Tie as tie
 
 -- ---- what was given, and what the parts left
 
-abbrev start : tie.After-spread → tie.Start
+abbrev start : tie.After-spread-p → tie.Start
 start c = c.before.before.before.before.before
 
-abbrev merged : tie.After-finish → tie.After-spread
+abbrev merged : tie.After-finish-end → tie.After-spread-p
 merged c = c.before.before.before.before
 
-abbrev ended : tie.Else1 → tie.After-finish
+abbrev ended : tie.Else-end-eq0 → tie.After-finish-end
 ended c = c.before.before.before.before
 
 abbrev given : tie.Start → Lent
 given c = held c.args.h c.args.store.now
 
 -- a refused channel leaves the store as it was
-back : (c : tie.After-undo) → c.undo.new.0 ≡ (given (start (merged (ended c.before.before.before)))).words
+back : (c : tie.After-undo) → c.undo.new.store ≡ (given (start (merged (ended c.before.before.before)))).words
 back c =
-    let i = c.before.before.before in
-    let f = ended i in
-    let p = (merged f).spread in
+    let i = c in
+    let f = ended i.before.before.before in
+    let p = (merged f).spread-p in
     let s = start (merged f) in
     let h = s.args.h in
-    undone h.size h.count s.args.store.now h.threshold h.cutoff s.args.arms p.result _ p.ensures.2 f.finish.result _ f.finish.ensures i.if1.false _ _ p.ensures.1 s.pre.sound.packed c.undo.ensures.0 c.undo.ensures.1
+    undone h.size h.count s.args.store.now h.threshold h.cutoff s.args.arms p.result _ p.ensures.2 f.finish-end.result _ f.finish-end.ensures i.if-end-eq0.false _ _ p.ensures.1 s.requires.sound.packed c.undo.ensures.0 c.undo.ensures.1
 
 -- ---- the needs
 
-spread-requires : tie.Need-spread-requires
-spread-requires c κs = let s = c.before.before.before.before in ((s.requires.sound.packed, sound-few _ _ _ s.requires.sound), (s.requires.qubits, s.requires.few, refl))
+spread-requires : tie.Need-spread-p-requires
+spread-requires c κs = let s = c in ((s.requires.sound.packed, sound-few _ _ _ s.requires.sound), (s.requires.qubits, s.requires.few, refl))
 
-finish-requires : tie.Need-finish-requires
+finish-requires : tie.Need-finish-end-requires
 finish-requires c κs = search rules
 
 answer-requires : tie.Need-answer-requires
 answer-requires c κs = search rules
 
-same_length : tie.Need-same-length
+same_length : tie.Need-shape_of-store-then-end-eq0
 same_length c = search rules
 
-returns : tie.Need-returns
+returns : tie.Need-returns-then-end-eq0
 returns c =
-    let f = c.before.before.before.before.before in
-    let p = merged f in
+    let f = c in
+    let p = merged f.before.before.before.before.before in
     let s = start p in (
       λ z. ap (λ (r : Answer). r.header.dirty) c.answer.ensures,
       λ n h.
-          ap (λ (r : Answer). gave r f.finish.new.0) c.answer.ensures
-          ∙ ran-0 (given s) s.args.arms n h p.spread.result _ p.spread.ensures.2 f.finish.result.number f.finish.result.count f.finish.result.taken _ f.finish.ensures c.before.if1.true,
+          ap (λ (r : Answer). gave r f.finish-end.new.store) c.answer.ensures
+          ∙ ran-0 (given s) s.args.arms n h p.spread-p.result _ p.spread-p.ensures.2 f.finish-end.result.number f.finish-end.result.count f.finish-end.result.taken _ f.finish-end.ensures c.if-end-eq0.true,
     )
 
 undo-requires : tie.Need-undo-requires
 undo-requires c κs =
-    let i = c.before.before in
-    let f = ended i in
-    let p = (merged f).spread in
+    let i = c in
+    let f = ended i.before.before in
+    let p = (merged f).spread-p in
     let s = start (merged f) in
     let h = s.args.h in (
-      f.finish.ensures.packed,
-      at_least h.size h.count s.args.store.now h.threshold h.cutoff s.args.arms p.result _ p.ensures.2 f.finish.result _ f.finish.ensures i.if1.false,
+      f.finish-end.ensures.packed,
+      at_least h.size h.count s.args.store.now h.threshold h.cutoff s.args.arms p.result _ p.ensures.2 f.finish-end.result _ f.finish-end.ensures i.if-end-eq0.false,
       p.ensures.0,
     )
 
-plain-answer-requires : tie.Need-plain-answer-requires
+plain-answer-requires : tie.Need-plain_answer-requires
 plain-answer-requires c κs = search rules
 
-same-length-2 : tie.Need-same-length-2
+same-length-2 : tie.Need-shape_of-store
 same-length-2 c = ap length (back c.before.before.before)
 
-returns-2 : tie.Need-returns-2
+returns-2 : tie.Need-returns
 unfolding plain_answer
 returns-2 c =
-    let u = c.before.before.before in
-    let i = u.before.before.before in
-    let f = ended i in
+    let u = c in
+    let i = u in
+    let f = ended i.before.before.before.before.before.before in
     let p = merged f in
     let s = start p in (
-      λ z. absurd (i.if1.false (sym (ap (λ (r : Answer). r.number) c.plain-answer.ensures) ∙ z)),
+      λ z. absurd (i.if-end-eq0.false (sym (ap (λ (r : Answer). r.number) c.plain_answer.ensures) ∙ z)),
       λ n h.
-          ap₂ gave c.plain-answer.ensures (back u)
-          ∙ ran-refused (given s) s.args.arms n h p.spread.result _ p.spread.ensures.2 f.finish.result.number f.finish.result.count f.finish.result.taken _ f.finish.ensures i.if1.false,
+          ap₂ gave c.plain_answer.ensures (back u.before.before.before)
+          ∙ ran-refused (given s) s.args.arms n h p.spread-p.result _ p.spread-p.ensures.2 f.finish-end.result.number f.finish-end.result.count f.finish-end.result.taken _ f.finish-end.ensures i.if-end-eq0.false,
     )
 
-pub run-ready-spec : {M : Type 1} → statement M
-run-ready-spec =
-    tie.close
-    (tie.spec
+pub run_ready_spec : {M : Type 1} → statement M
+run_ready_spec = tie.close (tie.spec
     spread-requires
     finish-requires
     answer-requires

@@ -20,52 +20,50 @@ refused : (least most : ℕ) (text : List ℕ) {w : Whole} {r : Count}
 refused least most text e none law =
     (none ∙ law ∙ ap (count_from least most (length text)) e, omega (arith, ap (λ (t : Count). t.value) none))
 
-whole-requires : tie.Need-whole-requires
+whole-requires : tie.Need-whole-w-requires
 whole-requires c κs = search rules
 
-no-count-requires : tie.Need-no-count-requires
+no-count-requires : tie.Need-no_count-requires
 no-count-requires c κs = search rules
 
-returns : tie.Need-returns
+returns : tie.Need-returns-then-w-ne0
 returns c =
-    refused _ _ _ c.before.before.before.whole.ensures.0 c.no-count.ensures
-    (no_whole _ _ _ _ c.before.if1.true)
+    refused _ _ _ c.whole-w.ensures.0 c.no_count.ensures
+    (no_whole _ _ _ _ c.if-w-ne0.true)
 
-no-count-requires-2 : tie.Need-no-count-requires-2
+no-count-requires-2 : tie.Need-no_count-requires-then-w-value
 no-count-requires-2 c κs = search rules
 
-returns-2 : tie.Need-returns-2
+returns-2 : tie.Need-returns-then-w-value
 returns-2 c =
-    refused _ _ _ c.before.before.before.before.before.whole.ensures.0 c.no-count2.ensures
-    (more-follows _ _ _ _ c.before.if2.true)
+    refused _ _ _ c.whole-w.ensures.0 c.no_count-then-w-value.ensures
+    (more-follows _ _ _ _ c.if-w-value.true)
 
-no-count-requires-3 : tie.Need-no-count-requires-3
+no-count-requires-3 : tie.Need-no_count-requires-then-v-least
 no-count-requires-3 c κs = search rules
 
-returns-3 : tie.Need-returns-3
+returns-3 : tie.Need-returns-then-v-least
 returns-3 c =
-    refused _ _ _ c.before.before.before.before.before.before.whole.ensures.0 c.no-count3.ensures
-    (too_small _ _ _ _ c.before.if3.true)
+    refused _ _ _ c.whole-w.ensures.0 c.no_count-then-v-least.ensures
+    (too_small _ _ _ _ c.if-v-least.true)
 
-no-count-requires-4 : tie.Need-no-count-requires-4
+no-count-requires-4 : tie.Need-no_count-requires-then-most-v
 no-count-requires-4 c κs = search rules
 
-returns-4 : tie.Need-returns-4
+returns-4 : tie.Need-returns-then-most-v
 returns-4 c =
-    refused _ _ _ c.before.before.before.before.before.before.before.whole.ensures.0 c.no-count4.ensures
-    (too_large _ _ _ _ c.before.if4.true)
+    refused _ _ _ c.whole-w.ensures.0 c.no_count-then-most-v.ensures
+    (too_large _ _ _ _ c.if-most-v.true)
 
-returns-5 : tie.Need-returns-5
+returns-5 : tie.Need-returns
 returns-5 c = (
-  is-count _ _ _ _ c.before.before.before.before.if1.false c.before.before.if2.false c.before.if3.false c.if4.false
-      ∙ ap (count_from _ _ _) c.before.before.before.before.before.before.whole.ensures.0,
-  c.if4.false,
+  is-count _ _ _ _ c.if-w-ne0.false c.if-w-value.false c.if-v-least.false c.if-most-v.false
+      ∙ ap (count_from _ _ _) c.whole-w.ensures.0,
+  c.if-most-v.false,
 )
 
-pub count-of-spec : {M : Type 1} → statement M
-count-of-spec =
-    tie.close
-    (tie.spec
+pub count_of_spec : {M : Type 1} → statement M
+count_of_spec = tie.close (tie.spec
     whole-requires
     no-count-requires
     returns

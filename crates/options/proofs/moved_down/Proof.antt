@@ -9,55 +9,53 @@ use borrow.Author.Rules.{rules}
 use Rattle.options.proofs.moved_down.Statement.{statement}
 use Rattle.options.proofs.moved_down.Tie as tie
 
-abbrev invariant-loop : tie.invariant-loop
-invariant-loop buffer₀ from to i₀ j₀ buffer i j = (i ≤ j) × (i ≤ length buffer) × (length buffer ≡ length buffer₀)
+abbrev invariant-loop-j : tie.invariant-loop-j
+invariant-loop-j buffer₀ from to i₀ j₀ buffer i j = (i ≤ j) × (i ≤ length buffer) × (length buffer ≡ length buffer₀)
 
-abbrev decreases-loop : tie.decreases-loop
-decreases-loop buffer₀ from to i₀ j₀ buffer i j = to - j
+abbrev decreases-loop-j : tie.decreases-loop-j
+decreases-loop-j buffer₀ from to i₀ j₀ buffer i j = to - j
 
 -- the second part follows from the first
 counts : (n : ℕ) (xs : List ℕ) → n ≤ length xs → IsPrefixLen n xs
 counts n xs h = (h, sym (length-take-le n xs h))
 
-loop-holds : tie.Need-loop-init invariant-loop decreases-loop
+loop-holds : tie.Need-loop-j-init invariant-loop-j decreases-loop-j
 loop-holds c = search rules
 
-same_length : tie.Need-same-length invariant-loop decreases-loop
+same_length : tie.Need-shape_of-buffer-then-buffer-j invariant-loop-j decreases-loop-j
 same_length c = search rules
 
-returns : tie.Need-returns invariant-loop decreases-loop
-returns c = counts _ _ c.before.before.loop.invariant.1
+returns : tie.Need-returns-then-buffer-j invariant-loop-j decreases-loop-j
+returns c = counts _ _ c.loop-j.invariant.1
 
-slice-read-buffer : tie.Need-slice-read-buffer invariant-loop decreases-loop
+slice-read-buffer : tie.Need-bounds-buffer-j invariant-loop-j decreases-loop-j
 slice-read-buffer c = search rules
 
-slice-write-buffer : tie.Need-slice-write-buffer invariant-loop decreases-loop
+slice-write-buffer : tie.Need-bounds-buffer-i invariant-loop-j decreases-loop-j
 slice-write-buffer c = search rules
 
-add-i : tie.Need-overflow-add-i invariant-loop decreases-loop
+add-i : tie.Need-overflow_add-i invariant-loop-j decreases-loop-j
 add-i c = search rules
 
-add-j : tie.Need-overflow-add-j invariant-loop decreases-loop
+add-j : tie.Need-overflow_add-j invariant-loop-j decreases-loop-j
 add-j c = search rules
 
-loop-less : tie.Need-loop-smaller invariant-loop decreases-loop
+loop-less : tie.Need-loop-j-smaller invariant-loop-j decreases-loop-j
 loop-less c = search rules
 
-loop-again : tie.Need-loop-preserved invariant-loop decreases-loop
+loop-again : tie.Need-loop-j-preserved invariant-loop-j decreases-loop-j
 loop-again c = simp length-set (search rules)
 
-same-length-2 : tie.Need-same-length-2 invariant-loop decreases-loop
+same-length-2 : tie.Need-shape_of-buffer invariant-loop-j decreases-loop-j
 same-length-2 c = search rules
 
-returns-2 : tie.Need-returns-2 invariant-loop decreases-loop
-returns-2 c = counts _ _ c.before.loop.invariant.1
+returns-2 : tie.Need-returns invariant-loop-j decreases-loop-j
+returns-2 c = counts _ _ c.loop-j.invariant.1
 
-pub moved-down-spec : {M : Type 1} → statement M
-moved-down-spec =
-    tie.close
-    (tie.spec
-    invariant-loop
-    decreases-loop
+pub moved_down_spec : {M : Type 1} → statement M
+moved_down_spec = tie.close (tie.spec
+    invariant-loop-j
+    decreases-loop-j
     loop-holds
     same_length
     returns

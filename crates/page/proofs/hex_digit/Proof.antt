@@ -5,24 +5,29 @@ use borrow.Author.Tests.{lt-ltb, le-ltb}
 use Rattle.page.proofs.hex_digit.Statement.{statement}
 use Rattle.page.proofs.hex_digit.Tie as tie
 
-add-result : tie.Need-overflow-add-result
+add-result : tie.Need-overflow_add-result
 add-result c = search rules
 
-cast-result : tie.Need-overflow-cast-result
+cast-result : tie.Need-overflow_cast-result
 cast-result c = search rules
 
-returns : tie.Need-returns
-returns c = rw (lt-ltb c.before.args.d 10 c.if1.true)
+returns : tie.Need-returns-then-d-lt10
+returns c = rw (lt-ltb c.args.d 10 c.if-d-lt10.true)
 
-add-result-2 : tie.Need-overflow-add-result-2
+add-result-2 : tie.Need-overflow_add-result-2
 add-result-2 c = search rules
 
-cast-result-2 : tie.Need-overflow-cast-result-2
+cast-result-2 : tie.Need-overflow_cast-result-2
 cast-result-2 c = search rules
 
-returns-2 : tie.Need-returns-2
-returns-2 c = rw (le-ltb c.before.args.d 10 c.if1.false) (omega arith)
+returns-2 : tie.Need-returns
+returns-2 c = rw (le-ltb c.args.d 10 c.if-d-lt10.false) (omega arith)
 
-pub hex-digit-spec : {M : Type 1} → statement M
-hex-digit-spec =
-    tie.close (tie.spec add-result cast-result returns add-result-2 cast-result-2 returns-2)
+pub hex_digit_spec : {M : Type 1} → statement M
+hex_digit_spec = tie.close (tie.spec
+    add-result
+    cast-result
+    returns
+    add-result-2
+    cast-result-2
+    returns-2)

@@ -16,17 +16,17 @@ use Rattle.page.proofs.put_line.Tie as tie
 
 -- ---- the pieces
 
-abbrev from : tie.After-slice-known3 → tie.Start
+abbrev from : tie.After-slice_known-3-1 → tie.Start
 from c = c.before.before.before.before.before.before.before.before.before.before.before.before
 
-abbrev place : tie.After-slice-known3 → List ℕ
-place c = c.before.before.before.before.before.before.before.before.put-number.new.0
+abbrev place : tie.After-slice_known-3-1 → List ℕ
+place c = c.put_number.new.out
 
-abbrev parts : tie.After-slice-known3 → List ℕ
-parts c = c.before.before.put-number2.new.0
+abbrev parts : tie.After-slice_known-3-1 → List ℕ
+parts c = c.put_number-2.new.out
 
-abbrev loss : tie.After-slice-known4 → List ℕ
-loss c = c.before.before.put-hexadecimal.new.0
+abbrev loss : tie.After-slice_known-4-1 → List ℕ
+loss c = c.put_hexadecimal.new.out
 
 -- they are the line
 line-is : (s : Size) (at : ℕ) (w : List ℕ) {a b c : List ℕ} → a ≡ justified 5 at → b ≡ justified 11 (share (get_or w 0 0)) → c ≡ hexadecimal 16 (get_or w 1 0)
@@ -40,100 +40,98 @@ nothing : (c : tie.Start) → Begins page_line_len 0 [] c.args.out.now
 nothing c = nothing_yet page_line_len c.args.out.now c.requires.0
 
 -- the place
-placed : (c : tie.After-slice-known3) → Begins page_line_len 5 (place c) (put_mid 0 5 (from c).args.out.now (place c))
-placed c = with_part (nothing (from c)) 5 (place c) (omega arith) (omega arith) c.before.before.before.before.before.before.before.before.put-number.auto.0
+placed : (c : tie.After-slice_known-3-1) → Begins page_line_len 5 (place c) (put_mid 0 5 (from c).args.out.now (place c))
+placed c = with_part (nothing (from c)) 5 (place c) (omega arith) (omega arith) c.put_number.auto.out
 
 -- .. and the share
-numbered : (c : tie.After-slice-known3) → Begins page_line_len 16 (place c ++ parts c) (put_mid 5 11 (put_mid 0 5 (from c).args.out.now (place c)) (parts c))
-numbered c = with_part (placed c) 16 (parts c) (omega arith) (omega arith) c.before.before.put-number2.auto.0
+numbered : (c : tie.After-slice_known-3-1) → Begins page_line_len 16 (place c ++ parts c) (put_mid 5 11 (put_mid 0 5 (from c).args.out.now (place c)) (parts c))
+numbered c = with_part (placed c) 16 (parts c) (omega arith) (omega arith) c.put_number-2.auto.out
 
 -- .. and two blanks
-abbrev text : tie.After-slice-known3 → List ℕ
+abbrev text : tie.After-slice_known-3-1 → List ℕ
 text c = place c ++ parts c ++ blank ∷ [] ++ blank ∷ []
 
-abbrev slice : tie.After-slice-known3 → List ℕ
+abbrev slice : tie.After-slice_known-3-1 → List ℕ
 slice c = set (set (put_mid 5 11 (put_mid 0 5 (from c).args.out.now (place c)) (parts c)) 16 blank) 17 blank
 
-spaced : (c : tie.After-slice-known3) → Begins page_line_len 18 (text c) (slice c)
+spaced : (c : tie.After-slice_known-3-1) → Begins page_line_len 18 (text c) (slice c)
 spaced c = with_byte (with_byte (numbered c) blank (omega arith)) blank (omega arith)
 
 -- .. and the loss word
-ended : (c : tie.After-slice-known4) → Begins page_line_len 34 (text c.before.before.before.before.before ++ loss c) (put_mid 18 16 (slice c.before.before.before.before.before) (loss c))
-ended c = with_part (spaced c.before.before.before.before.before) 34 (loss c) (omega arith) (omega arith) c.before.before.put-hexadecimal.auto.0
+ended : (c : tie.After-slice_known-4-1) → Begins page_line_len 34 (text c.before.before.before.before.before ++ loss c) (put_mid 18 16 (slice c.before.before.before.before.before) (loss c))
+ended c = with_part (spaced c.before.before.before.before.before) 34 (loss c) (omega arith) (omega arith) c.put_hexadecimal.auto.out
 
 -- ---- needs
 
-sub-put-number : tie.Need-overflow-sub-put-number
+sub-put-number : tie.Need-slice_bounds-put_number-count
 sub-put-number c = search rules
 
-part-put-number-start : tie.Need-slice-bounds-put-number-start
+part-put-number-start : tie.Need-slice_bounds-put_number-start
 part-put-number-start c = search rules
 
-part-put-number-end : tie.Need-slice-bounds-put-number-end
+part-put-number-end : tie.Need-slice_bounds-put_number-end
 part-put-number-end c = search rules
 
-put-number-requires : tie.Need-put-number-requires
+put-number-requires : tie.Need-put_number-requires
 put-number-requires c κs = search rules
 
-sub-put-number-2 : tie.Need-overflow-sub-put-number-2
+sub-put-number-2 : tie.Need-slice_bounds-put_number-count-2
 sub-put-number-2 c = search rules
 
-part-put-number-start-2 : tie.Need-slice-bounds-put-number-start-2
+part-put-number-start-2 : tie.Need-slice_bounds-put_number-start-2
 part-put-number-start-2 c = search rules
 
-part-put-number-end-2 : tie.Need-slice-bounds-put-number-end-2
+part-put-number-end-2 : tie.Need-slice_bounds-put_number-end-2
 part-put-number-end-2 c = search rules
 
-shared-slice-read-share : tie.Need-shared-slice-read-share
+shared-slice-read-share : tie.Need-bounds-e-0
 shared-slice-read-share c = search rules
 
 share-requires : tie.Need-share-requires
 share-requires c κs = search rules
 
-put-number-requires-2 : tie.Need-put-number-requires-2
+put-number-requires-2 : tie.Need-put_number-requires-2
 put-number-requires-2 c κs = search rules
 
-slice-write-out : tie.Need-slice-write-out
+slice-write-out : tie.Need-bounds-out-16
 slice-write-out c = search rules
 
-slice-write-out-2 : tie.Need-slice-write-out-2
+slice-write-out-2 : tie.Need-bounds-out-17
 slice-write-out-2 c = omega (arith, (with_byte (numbered c) blank (omega arith)).long)
 
-sub-put-hexadecimal : tie.Need-overflow-sub-put-hexadecimal
+sub-put-hexadecimal : tie.Need-slice_bounds-put_hexadecimal-count
 sub-put-hexadecimal c = search rules
 
-part-put-hexadecimal-start : tie.Need-slice-bounds-put-hexadecimal-start
+part-put-hexadecimal-start : tie.Need-slice_bounds-put_hexadecimal-start
 part-put-hexadecimal-start c = search rules
 
-part-put-hexadecimal-end : tie.Need-slice-bounds-put-hexadecimal-end
+part-put-hexadecimal-end : tie.Need-slice_bounds-put_hexadecimal-end
 part-put-hexadecimal-end c = omega (arith, (spaced c).long)
 
-shared-slice-read-put-hexadecimal : tie.Need-shared-slice-read-put-hexadecimal
+shared-slice-read-put-hexadecimal : tie.Need-bounds-e-1
 shared-slice-read-put-hexadecimal c = search rules
 
-put-hexadecimal-requires : tie.Need-put-hexadecimal-requires
+put-hexadecimal-requires : tie.Need-put_hexadecimal-requires
 put-hexadecimal-requires c κs = search rules
 
-slice-write-out-3 : tie.Need-slice-write-out-3
+slice-write-out-3 : tie.Need-bounds-out-34
 slice-write-out-3 c = omega (arith, (ended c).long)
 
-same_length : tie.Need-same-length
+same_length : tie.Need-shape_of-out
 same_length c = (with_byte (ended c) line_end (omega arith)).long ∙ sym (from c.before.before.before.before.before).requires.0
 
 returns : tie.Need-returns
 returns c =
-    let d = c.before.before.before.before.before in
-    let s = from d in
+    let d = c in
+    let s = from d.before.before.before.before.before in
     whole (with_byte (ended c) line_end (omega arith)) (omega arith)
     ∙ line-is s.args.size s.args.place s.args.e.now
-    (d.before.before.before.before.before.before.before.before.put-number.ensures ∙ ap (λ (k : ℕ). justified k s.args.place) (part-long (nothing s) 5 (omega arith)))
-    (d.before.before.put-number2.ensures ∙ ap₂ justified (part-long (placed d) 16 (omega arith)) d.before.before.before.share.ensures)
-    (c.before.before.put-hexadecimal.ensures ∙ ap (λ (k : ℕ). hexadecimal k (get_or s.args.e.now 1 0)) (part-long (spaced d) 34 (omega arith)))
+    (d.put_number.ensures ∙ ap (λ (k : ℕ). justified k s.args.place) (part-long (nothing s) 5 (omega arith)))
+    (d.put_number-2.ensures ∙ ap₂ justified (part-long (placed d.before.before.before.before.before) 16 (omega arith)) d.share.ensures)
+    (c.put_hexadecimal.ensures ∙ ap (λ (k : ℕ). hexadecimal k (get_or s.args.e.now 1 0)) (part-long (spaced d.before.before.before.before.before) 34 (omega arith)))
 
-pub put-line-spec : {M : Type 1} → statement M
-put-line-spec =
-    tie.close
-    (tie.spec
+pub put_line_spec : {M : Type 1} → statement M
+put_line_spec = tie.close (tie.spec
     sub-put-number
     part-put-number-start
     part-put-number-end

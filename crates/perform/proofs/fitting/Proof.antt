@@ -8,34 +8,38 @@ use Rattle.perform.proofs.Encoded.{table-shows, view-shows}
 use Rattle.perform.proofs.fitting.Statement.{statement}
 use Rattle.perform.proofs.fitting.Tie as tie
 
-is_known : (c : tie.Else1) → known c.before.before.before.args.call.now ≡ true
-is_known c = sym c.before.known.ensures ∙ not-false _ c.if1.false
+is_known : (c : tie.Else-not-known) → known c.args.call.now ≡ true
+is_known c = sym c.known.ensures ∙ not-false _ c.if-not-known.false-raw
 
 known-requires : tie.Need-known-requires
 known-requires c κs = search rules
 
-returns : tie.Need-returns
+returns : tie.Need-returns-then-not-known
 unfolding fitting
-returns c = rw (sym c.before.known.ensures ∙ not-true _ c.if1.true)
+returns c = rw (sym c.known.ensures ∙ not-true _ c.if-not-known.true-raw)
 
-shared-slice-read-kind : tie.Need-shared-slice-read-kind
+shared-slice-read-kind : tie.Need-bounds-call-0
 shared-slice-read-kind c = search rules
 
-returns-2 : tie.Need-returns-2
+returns-2 : tie.Need-returns-then-kind-eq11
 unfolding fitting
-returns-2 c = rw (is_known c.before.before, table-shows c.before.before.before.before.before.args.call.now c.if2.true)
+returns-2 c = rw (is_known c.before.before, table-shows c.args.call.now c.if-kind-eq11.true)
 
-returns-3 : tie.Need-returns-3
+returns-3 : tie.Need-returns-then-kind-eq14
 unfolding fitting
-returns-3 c = rw (is_known c.before.before.before, view-shows c.before.before.before.before.before.before.args.call.now c.if3.true)
+returns-3 c = rw (is_known c.before.before.before, view-shows c.args.call.now c.if-kind-eq14.true)
 
-returns-4 : tie.Need-returns-4
+returns-4 : tie.Need-returns
 unfolding fitting shows_words
 returns-4 c =
-    let k = kind_in c.before.before.before.before.before.before.args.call.now in
-    rw (is_known c.before.before.before, ne_eqb k 11 c.before.if2.false, ne_eqb k 14 c.if3.false)
+    let k = kind_in c.args.call.now in
+    rw (is_known c.before.before.before, ne_eqb k 11 c.if-kind-eq11.false, ne_eqb k 14 c.if-kind-eq14.false)
 
-pub fitting-spec : {M : Type 1} → statement M
-fitting-spec =
-    tie.close
-    (tie.spec known-requires returns shared-slice-read-kind returns-2 returns-3 returns-4)
+pub fitting_spec : {M : Type 1} → statement M
+fitting_spec = tie.close (tie.spec
+    known-requires
+    returns
+    shared-slice-read-kind
+    returns-2
+    returns-3
+    returns-4)

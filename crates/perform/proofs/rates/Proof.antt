@@ -23,49 +23,47 @@ module _ (w : List ℕ) (l : length w ≡ 18) where
       let at : r ≡ get_or (rates_in w) i d = e ∙ sym (get_or-mapped float (drop 3 w) i 0 d (omega (arith, length-drop 3 w)) ∙ ap float (get_or-drop 3 w i 0)) in
       rw (add-one i, take-suc-set all i r (omega arith), take-suc (rates_in w) i d (omega (arith, all-long)), p, at)
 
-abbrev invariant-loop : tie.invariant-loop
-invariant-loop call all₀ i₀ all i = (i ≤ 15) × (length all ≡ 15) × (take i all ≡ take i (rates_in call))
+abbrev invariant-loop-i : tie.invariant-loop-i
+invariant-loop-i call all₀ i₀ all i = (i ≤ 15) × (length all ≡ 15) × (take i all ≡ take i (rates_in call))
 
-abbrev decreases-loop : tie.decreases-loop
-decreases-loop call all₀ i₀ all i = 15 - i
+abbrev decreases-loop-i : tie.decreases-loop-i
+decreases-loop-i call all₀ i₀ all i = 15 - i
 
-loop-holds : tie.Need-loop-init invariant-loop decreases-loop
+loop-holds : tie.Need-loop-i-init invariant-loop-i decreases-loop-i
 loop-holds c = (omega arith, refl, refl)
 
-rate-requires : tie.Need-rate-requires invariant-loop decreases-loop
-rate-requires c κs = (c.before.before.before.requires, c.loop-test.true)
+rate-requires : tie.Need-rate-requires invariant-loop-i decreases-loop-i
+rate-requires c κs = (c.requires, c.loop-i-test.true)
 
-mul-all : tie.Need-overflow-mul-all invariant-loop decreases-loop
+mul-all : tie.Need-offset_bounds-all-i invariant-loop-i decreases-loop-i
 mul-all c = omega arith
 
-array-write-all : tie.Need-array-write-all invariant-loop decreases-loop
+array-write-all : tie.Need-bounds-all-i invariant-loop-i decreases-loop-i
 array-write-all c = omega arith
 
-add-i : tie.Need-overflow-add-i invariant-loop decreases-loop
+add-i : tie.Need-overflow_add-i invariant-loop-i decreases-loop-i
 add-i c = omega arith
 
-loop-less : tie.Need-loop-smaller invariant-loop decreases-loop
+loop-less : tie.Need-loop-i-smaller invariant-loop-i decreases-loop-i
 loop-less c = omega arith
 
-loop-again : tie.Need-loop-preserved invariant-loop decreases-loop
+loop-again : tie.Need-loop-i-preserved invariant-loop-i decreases-loop-i
 loop-again c =
-    let l = c.before.before.loop in
-    let s = c.before.before.before.before in
-    (omega arith, simp length-set l.invariant.1, rate-next s.args.call.now s.requires l.all c.rate.result l.i c.before.loop-test.true l.invariant.1 c.rate.ensures l.invariant.2)
+    let l = c.loop-i in
+    let s = c in
+    (omega arith, simp length-set l.invariant.1, rate-next s.args.call.now s.requires l.all c.rate.result l.i c.loop-i-test.true l.invariant.1 c.rate.ensures l.invariant.2)
 
-returns : tie.Need-returns invariant-loop decreases-loop
+returns : tie.Need-returns invariant-loop-i decreases-loop-i
 returns c =
-    let l = c.before.loop in
-    let s = c.before.before.before in
+    let l = c.loop-i in
+    let s = c in
     let w = s.args.call.now in
-    sym (take_all l.i l.all (omega (arith, c.loop-test.false, l.invariant.1))) ∙ l.invariant.2 ∙ take_all l.i (rates_in w) (omega (arith, c.loop-test.false, all-long w s.requires))
+    sym (take_all l.i l.all (omega (arith, c.loop-i-test.false, l.invariant.1))) ∙ l.invariant.2 ∙ take_all l.i (rates_in w) (omega (arith, c.loop-i-test.false, all-long w s.requires))
 
-pub rates-spec : {M : Type 1} → statement M
-rates-spec =
-    tie.close
-    (tie.spec
-    invariant-loop
-    decreases-loop
+pub rates_spec : {M : Type 1} → statement M
+rates_spec = tie.close (tie.spec
+    invariant-loop-i
+    decreases-loop-i
     loop-holds
     rate-requires
     mul-all

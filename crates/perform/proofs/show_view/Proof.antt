@@ -14,55 +14,53 @@ use borrow.Author.Rules.{rules}
 use Rattle.perform.proofs.show_view.Statement.{statement}
 use Rattle.perform.proofs.show_view.Tie as tie
 
-fits : (c : tie.After-view-words-known) → length c.view-words-known.result.now ≤ shown_words
+fits : (c : tie.After-view_words_known-shown) → length c.view_words_known-shown.result.now ≤ shown_words
 unfolding room_for
 fits c =
-    let s = c.before.before.before.before in
-    omega (arith, ap length c.view-words-known.ensures, output-fits (held s.args.h s.args.store.now) (view s.args.place))
+    let s = c in
+    omega (arith, ap length c.view_words_known-shown.ensures, output-fits (held s.args.h s.args.store.now) (view s.args.place))
 
-view-answer-known-requires : tie.Need-view-answer-known-requires
+view-answer-known-requires : tie.Need-view_answer_known-a-requires
 view-answer-known-requires c κs = search rules
 
-view-words-known-requires : tie.Need-view-words-known-requires
+view-words-known-requires : tie.Need-view_words_known-shown-requires
 view-words-known-requires c κs = search rules
 
-add-end : tie.Need-overflow-add-end
+add-end : tie.Need-overflow_add-end
 add-end c = search rules
 
-sub-copy-words : tie.Need-overflow-sub-copy-words
+sub-copy-words : tie.Need-slice_bounds-copy_words-count
 sub-copy-words c = search rules
 
-part-copy-words-start : tie.Need-slice-bounds-copy-words-start
+part-copy-words-start : tie.Need-slice_bounds-copy_words-start
 part-copy-words-start c = search rules
 
-part-copy-words-end : tie.Need-slice-bounds-copy-words-end
-part-copy-words-end c = omega (arith, fits c, c.before.before.before.before.requires.0)
+part-copy-words-end : tie.Need-slice_bounds-copy_words-end
+part-copy-words-end c = omega (arith, fits c, c.requires.0)
 
-copy-words-requires : tie.Need-copy-words-requires
+copy-words-requires : tie.Need-copy_words-requires
 copy-words-requires c κs = search rules
 
-put-numbers-requires : tie.Need-put-numbers-requires
+put-numbers-requires : tie.Need-put_numbers-requires
 put-numbers-requires c κs = search rules
 
-same_length : tie.Need-same-length
+same_length : tie.Need-shape_of-out
 same_length c = search rules
 
 returns : tie.Need-returns
 returns c =
-    let n = c.before.before in
-    let t = c.before.before.before.before.before.before in
-    let v = c.before.before.before.before.before.before.before.before in
-    let s = c.before.before.before.before.before.before.before.before.before.before.before.before in
+    let n = c in
+    let t = c in
+    let v = c in
+    let s = c in
     let x = held s.args.h s.args.store.now in
     let out = s.args.out.now in
-    let m = number_words + length v.view-words-known.result.now - number_words in
-    looked-view x v.before.view-answer-known.result out m (omega (arith, s.requires.0)) t.copy-words.auto.0 n.put-numbers.ensures s.args.place
-    v.before.view-answer-known.ensures (t.copy-words.ensures ∙ v.view-words-known.ensures ∙ over-whole (step (view s.args.place) x).output (mid_of number_words m out) (sym (ap length (t.copy-words.ensures ∙ v.view-words-known.ensures)) ∙ t.copy-words.auto.0))
+    let m = number_words + length v.view_words_known-shown.result.now - number_words in
+    looked-view x v.view_answer_known-a.result out m (omega (arith, s.requires.0)) t.copy_words.auto.to n.put_numbers.ensures s.args.place
+    v.view_answer_known-a.ensures (t.copy_words.ensures ∙ v.view_words_known-shown.ensures ∙ over-whole (step (view s.args.place) x).output (mid_of number_words m out) (sym (ap length (t.copy_words.ensures ∙ v.view_words_known-shown.ensures)) ∙ t.copy_words.auto.to))
 
-pub show-view-spec : {M : Type 1} → statement M
-show-view-spec =
-    tie.close
-    (tie.spec
+pub show_view_spec : {M : Type 1} → statement M
+show_view_spec = tie.close (tie.spec
     view-answer-known-requires
     view-words-known-requires
     add-end

@@ -5,16 +5,19 @@ use Rattle.perform.specs.Encoding.{shown_words, room_in}
 use Rattle.perform.proofs.table_room.Statement.{statement}
 use Rattle.perform.proofs.table_room.Tie as tie
 
-whole-requires : tie.Need-whole-requires
+whole-requires : tie.Need-whole-asked-requires
 whole-requires c κs = search rules
 
-returns : tie.Need-returns
+returns : tie.Need-returns-then-asked-gt-SHOWN_WORDS
 unfolding room_in
-returns c = rw (← c.before.whole.ensures, lt-ltb shown_words c.before.whole.result c.if1.true)
+returns c = rw (← c.whole-asked.ensures, lt-ltb shown_words c.whole-asked.result c.if-asked-gt-SHOWN_WORDS.true)
 
-returns-2 : tie.Need-returns-2
+returns-2 : tie.Need-returns
 unfolding room_in
-returns-2 c = rw (← c.before.whole.ensures, le-ltb shown_words c.before.whole.result c.if1.false)
+returns-2 c = rw (← c.whole-asked.ensures, le-ltb shown_words c.whole-asked.result c.if-asked-gt-SHOWN_WORDS.false)
 
-pub table-room-spec : {M : Type 1} → statement M
-table-room-spec = tie.close (tie.spec whole-requires returns returns-2)
+pub table_room_spec : {M : Type 1} → statement M
+table_room_spec = tie.close (tie.spec
+    whole-requires
+    returns
+    returns-2)

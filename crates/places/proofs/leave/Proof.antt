@@ -11,118 +11,116 @@ use Rattle.places.proofs.Walked.{Walked, tested, none-walked, one_kept, one_left
 use Rattle.places.proofs.leave.Statement.{statement}
 use Rattle.places.proofs.leave.Tie as tie
 
-abbrev invariant-loop : tie.invariant-loop
-invariant-loop store count q order₀ left₀ len stay₀ out₀ i₀ order left stay out i = (s : Size) → len ≡ entry_len s → Walked s count q store i stay out order left
+abbrev invariant-loop-i : tie.invariant-loop-i
+invariant-loop-i store count q order₀ left₀ len stay₀ out₀ i₀ order left stay out i = (s : Size) → len ≡ entry_len s → Walked s count q store i stay out order left
 
-abbrev decreases-loop : tie.decreases-loop
-decreases-loop store count q order₀ left₀ len stay₀ out₀ i₀ order left stay out i = i
+abbrev decreases-loop-i : tie.decreases-loop-i
+decreases-loop-i store count q order₀ left₀ len stay₀ out₀ i₀ order left stay out i = i
 
-abbrev start : tie.At-loop invariant-loop decreases-loop → tie.Start invariant-loop decreases-loop
+abbrev start : tie.At-loop-i invariant-loop-i decreases-loop-i → tie.Start invariant-loop-i decreases-loop-i
 start c = c.before.before.before
 
 -- the walk as it stands
-walked : (c : tie.At-loop invariant-loop decreases-loop)
-    → let a = (start c).args in let l = c.loop in Walked a.size a.count a.q a.store.now l.i l.stay l.out l.order l.left
-walked c = c.loop.invariant (start c).args.size c.before.entry-len.ensures
+walked : (c : tie.At-loop-i invariant-loop-i decreases-loop-i)
+    → let a = (start c).args in let l = c.loop-i in Walked a.size a.count a.q a.store.now l.i l.stay l.out l.order l.left
+walked c = c.loop-i.invariant (start c).args.size c.entry_len-len.ensures
 
 -- the entry at the place below i lies in the store
-inside : (c : tie.In-loop invariant-loop decreases-loop) → (c.before.loop.i - 1) * c.before.before.entry-len.result + 5 ≤ length (start c.before).args.store.now
+inside : (c : tie.In-loop-i invariant-loop-i decreases-loop-i) → (c.loop-i.i - 1) * c.entry_len-len.result + 5 ≤ length (start c.before).args.store.now
 inside c =
     let a = (start c.before).args in
-    let p = (start c.before).pre in
-    let e = c.before.before.entry-len in
-    let h : c.before.loop.i - 1 < a.count = omega (arith, walked c.before) in
-    omega (arith, e.ensures, slot-end a.size e.result _ a.count p.0.sized e.ensures p.0.room (c.before.loop.i - 1) h)
+    let p = (start c.before).requires in
+    let e = c.entry_len-len in
+    let h : c.loop-i.i - 1 < a.count = omega (arith, walked c.before) in
+    omega (arith, e.ensures, slot-end a.size e.result _ a.count p.0.sized e.ensures p.0.room (c.loop-i.i - 1) h)
 
-entry-len-requires : tie.Need-entry-len-requires invariant-loop decreases-loop
-entry-len-requires c κs = limits _ _ c.before.requires.0.sized
+entry-len-requires : tie.Need-entry_len-len-requires invariant-loop-i decreases-loop-i
+entry-len-requires c κs = limits _ _ c.requires.0.sized
 
-loop-holds : tie.Need-loop-init invariant-loop decreases-loop
+loop-holds : tie.Need-loop-i-init invariant-loop-i decreases-loop-i
 loop-holds c =
-    let a = c.before.before.args in
-    let p = c.before.before.requires in
+    let a = c.args in
+    let p = c.requires in
     λ s e. none-walked s a.count a.q a.store.now a.order.now a.left.now (omega (arith, p.0.room, p.0.sized.capacity.high)) p.2 p.3 p.4
 
-sub-i : tie.Need-overflow-sub-i invariant-loop decreases-loop
+sub-i : tie.Need-overflow_sub-i invariant-loop-i decreases-loop-i
 sub-i c = omega arith
 
-mul-if1 : tie.Need-overflow-mul-if1 invariant-loop decreases-loop
+mul-if1 : tie.Need-overflow_mul-i invariant-loop-i decreases-loop-i
 mul-if1 c = omega (arith, inside c)
 
-add-if1 : tie.Need-overflow-add-if1 invariant-loop decreases-loop
+add-if1 : tie.Need-overflow_add-i invariant-loop-i decreases-loop-i
 add-if1 c = omega (arith, inside c)
 
-mul-if1-2 : tie.Need-overflow-mul-if1-2 invariant-loop decreases-loop
+mul-if1-2 : tie.Need-offset_bounds-store-i invariant-loop-i decreases-loop-i
 mul-if1-2 c = omega (arith, inside c)
 
-shared-slice-read-if1 : tie.Need-shared-slice-read-if1 invariant-loop decreases-loop
+shared-slice-read-if1 : tie.Need-bounds-store-i invariant-loop-i decreases-loop-i
 shared-slice-read-if1 c = omega (arith, inside c.before)
 
-shr-if1 : tie.Need-overflow-shr-if1 invariant-loop decreases-loop
-shr-if1 c = omega (arith, (start c.before.before).pre.1)
+shr-if1 : tie.Need-overflow_shr-store invariant-loop-i decreases-loop-i
+shr-if1 c = omega (arith, (start c.before.before).requires.1)
 
-mul_left : tie.Need-overflow-mul-left invariant-loop decreases-loop
+mul_left : tie.Need-offset_bounds-left-out invariant-loop-i decreases-loop-i
 mul_left c = omega (arith, walked c.before.before.before)
 
-element-write-left : tie.Need-element-write-left invariant-loop decreases-loop
-element-write-left c = omega (arith, walked c.before.before.before)
+element-write-left : tie.Need-bounds-left-out invariant-loop-i decreases-loop-i
+element-write-left c = omega (arith, walked c.before.before.before.before)
 
-add-out : tie.Need-overflow-add-out invariant-loop decreases-loop
-add-out c = omega (arith, walked c.before.before.before)
+add-out : tie.Need-overflow_add-out invariant-loop-i decreases-loop-i
+add-out c = omega (arith, walked c.before.before.before.before)
 
-sub-stay : tie.Need-overflow-sub-stay invariant-loop decreases-loop
-sub-stay c = omega (arith, walked c.before.before.before)
+sub-stay : tie.Need-overflow_sub-stay invariant-loop-i decreases-loop-i
+sub-stay c = omega (arith, walked c.before.before.before.before)
 
-mul-order : tie.Need-overflow-mul-order invariant-loop decreases-loop
-mul-order c = omega (arith, walked c.before.before.before)
+mul-order : tie.Need-offset_bounds-order-stay invariant-loop-i decreases-loop-i
+mul-order c = omega (arith, walked c.before.before.before.before)
 
-element-copy-out-order : tie.Need-element-copy-out-order invariant-loop decreases-loop
-element-copy-out-order c = omega (arith, walked c.before.before.before)
+element-copy-out-order : tie.Need-bounds-order-stay invariant-loop-i decreases-loop-i
+element-copy-out-order c = omega (arith, walked c.before.before.before.before.before)
 
-mul-order-2 : tie.Need-overflow-mul-order-2 invariant-loop decreases-loop
-mul-order-2 c = omega (arith, walked c.before.before.before.before)
+mul-order-2 : tie.Need-offset_bounds-order-i invariant-loop-i decreases-loop-i
+mul-order-2 c = omega (arith, walked c.before.before.before.before.before.before)
 
-element-write-order : tie.Need-element-write-order invariant-loop decreases-loop
-element-write-order c = omega (arith, walked c.before.before.before.before)
+element-write-order : tie.Need-bounds-order-i invariant-loop-i decreases-loop-i
+element-write-order c = omega (arith, walked c.before.before.before.before.before.before)
 
-loop-less : tie.Need-loop-smaller invariant-loop decreases-loop
+loop-less : tie.Need-loop-i-smaller-then-store-i-eq1 invariant-loop-i decreases-loop-i
 loop-less c = omega arith
 
-loop-again : tie.Need-loop-preserved invariant-loop decreases-loop
+loop-again : tie.Need-loop-i-preserved-then-store-i-eq1 invariant-loop-i decreases-loop-i
 loop-again c =
-    let p = c.before.before.before.before in
-    let a = (start p).args in
-    let l = p.loop in
-    let f : l.stay ≡ suc (l.stay - 1) = omega (arith, walked p) in
+    let p = c in
+    let a = (start p.before.before.before.before.before.before).args in
+    let l = p.loop-i in
+    let f : l.stay ≡ suc (l.stay - 1) = omega (arith, walked p.before.before.before.before.before.before) in
     λ s e.
     one_left s a.count a.q a.store.now l.out l.order l.left l.i l.stay (l.i - 1) (l.stay - 1) (omega arith) f (l.invariant s e)
-    (tested s a.q _ (l.i - 1) a.store.now e ∙ eq-eqb _ 1 c.before.if1.true)
+    (tested s a.q _ (l.i - 1) a.store.now e ∙ eq-eqb _ 1 c.if-store-i-eq1.true)
 
-loop-less-2 : tie.Need-loop-smaller-2 invariant-loop decreases-loop
+loop-less-2 : tie.Need-loop-i-smaller invariant-loop-i decreases-loop-i
 loop-less-2 c = omega arith
 
-loop-again-2 : tie.Need-loop-preserved-2 invariant-loop decreases-loop
+loop-again-2 : tie.Need-loop-i-preserved invariant-loop-i decreases-loop-i
 loop-again-2 c =
-    let p = c.before.before.before in
-    let a = (start p).args in
-    let l = p.loop in
+    let p = c in
+    let a = (start p.before.before.before).args in
+    let l = p.loop-i in
     λ s e.
     one_kept s a.count a.q a.store.now l.out l.order l.left l.i l.stay (l.i - 1) (omega arith) (l.invariant s e)
-    (tested s a.q _ (l.i - 1) a.store.now e ∙ ne_eqb _ 1 c.if1.false)
+    (tested s a.q _ (l.i - 1) a.store.now e ∙ ne_eqb _ 1 c.if-store-i-eq1.false)
 
-returns : tie.Need-returns invariant-loop decreases-loop
+returns : tie.Need-returns invariant-loop-i decreases-loop-i
 returns c =
-    let p = c.before in
-    let a = (start p).args in
-    let l = p.loop in
-    all-walked a.size a.count a.q a.store.now l.out l.order l.left l.i l.stay (omega arith) (walked p)
+    let p = c in
+    let a = (start p.before).args in
+    let l = p.loop-i in
+    all-walked a.size a.count a.q a.store.now l.out l.order l.left l.i l.stay (omega arith) (walked p.before)
 
 pub leave_spec : {M : Type 1} → statement M
-leave_spec =
-    tie.close
-    (tie.spec
-    invariant-loop
-    decreases-loop
+leave_spec = tie.close (tie.spec
+    invariant-loop-i
+    decreases-loop-i
     entry-len-requires
     loop-holds
     sub-i

@@ -5,6 +5,7 @@ use Prim.Native.Nat.{◌<◌}
 use native.Mathlib.Omega.{arith}
 use lib.ListN.{get_or}
 use Rattle.places.proofs.Arranged.{at_most, nothing-moves, from-later, by-exchange, by_copy}
+use borrow.Author.Rules.{rules}
 use Rattle.places.proofs.settle.Statement.{statement}
 use Rattle.places.proofs.settle.Tie as tie
 
@@ -13,100 +14,98 @@ bound : (c : tie.Start) → (c.args.v < 256) × (get_or c.args.order.now c.args.
 bound c = let p = c.requires in let m = at_most p.0 in (omega (arith, m, p.1, p.2), omega (arith, m, p.3.below c.args.v p.1))
 
 -- and if entry v is not there already, it stands at a later place
-past : (c : tie.Else1) → c.before.before.before.args.v < get_or c.before.before.before.args.order.now c.before.before.before.args.v 0
-past c = let p = c.before.before.before.requires in from-later p.0 p.1 p.2 p.3 c.if1.false
+past : (c : tie.Else-s-v) → c.args.v < get_or c.args.order.now c.args.v 0
+past c = let p = c.requires in from-later p.0 p.1 p.2 p.3 c.if-s-v.false
 
-mul-s : tie.Need-overflow-mul-s
+mul-s : tie.Need-offset_bounds-order-v
 mul-s c = omega (arith, bound c.before)
 
-element-copy-out-s : tie.Need-element-copy-out-s
-element-copy-out-s c = (bound c.before).0
+element-copy-out-s : tie.Need-bounds-order-v
+element-copy-out-s c = (bound c.before.before).0
 
-returns : tie.Need-returns
+returns : tie.Need-returns-then-s-v
 returns c =
-    let p = c.before.before.before.requires in
-    (p.0, nothing-moves p.0 p.1 p.2 p.3 c.if1.true, refl)
+    let p = c.requires in
+    (p.0, nothing-moves p.0 p.1 p.2 p.3 c.if-s-v.true, refl)
 
-mul-x : tie.Need-overflow-mul-x
-mul-x c = omega (arith, bound c.before.before.before)
+mul-x : tie.Need-offset_bounds-holds-v
+mul-x c = omega (arith, bound c.before.before.before.before)
 
-element-copy-out-x : tie.Need-element-copy-out-x
-element-copy-out-x c = (bound c.before.before.before).0
+element-copy-out-x : tie.Need-bounds-holds-v
+element-copy-out-x c = (bound c.before.before.before.before.before).0
 
-mul-order : tie.Need-overflow-mul-order
-mul-order c = omega (arith, bound c.before.before.before.before)
+mul-order : tie.Need-offset_bounds-order-v-2
+mul-order c = omega (arith, bound c.before.before.before.before.before.before)
 
-element-write-order : tie.Need-element-write-order
-element-write-order c = (bound c.before.before.before.before).0
+element-write-order : tie.Need-bounds-order-v-2
+element-write-order c = (bound c.before.before.before.before.before.before).0
 
-mul_holds : tie.Need-overflow-mul-holds
-mul_holds c = omega (arith, bound c.before.before.before.before)
+mul_holds : tie.Need-offset_bounds-holds-v-2
+mul_holds c = omega (arith, bound c.before.before.before.before.before.before)
 
-element-write-holds : tie.Need-element-write-init
-element-write-holds c = (bound c.before.before.before.before).0
-
-swap-entries-requires : tie.Need-swap-entries-requires
+swap-entries-requires : tie.Need-swap_entries-requires
 swap-entries-requires c κs =
-    let e = c.before.before.before in
-    let b = e.before.before.before in
-    (b.requires.0, past e, b.requires.3.below b.args.v b.requires.1)
+    let e = c in
+    let b = e in
+    (b.requires.0, past e.before.before.before.before, b.requires.3.below b.args.v b.requires.1)
 
 -- where an exchange is made
-abbrev other : tie.After-slice-known2 → tie.Then2
+abbrev other : tie.After-slice_known-then-x-many-1 → tie.Then-x-many
 other c = c.before.before.before.before
 
-mul-order-2 : tie.Need-overflow-mul-order-2
-mul-order-2 c = let p = (other c).before.before.before.before.before.requires in omega (arith, (other c).if2.true, p.2, at_most p.0)
+mul-order-2 : tie.Need-offset_bounds-order-x
+mul-order-2 c = let p = (other c).before.before.before.before.before.requires in omega (arith, (other c).if-x-many.true, p.2, at_most p.0)
 
-element-write-order-2 : tie.Need-element-write-order-2
-element-write-order-2 c = let p = (other c).before.before.before.before.before.requires in omega (arith, (other c).if2.true, p.2, at_most p.0)
+element-write-order-2 : tie.Need-bounds-order-x
+element-write-order-2 c = let p = (other c).before.before.before.before.before.requires in omega (arith, (other c).if-x-many.true, p.2, at_most p.0)
 
-mul-holds-2 : tie.Need-overflow-mul-holds-2
-mul-holds-2 c = omega (arith, bound (other c).before.before.before.before.before)
+mul-holds-2 : tie.Need-offset_bounds-holds-s
+mul-holds-2 c = omega (arith, bound (other c).before.before.before.before.before.before.before)
 
-element-write-holds-2 : tie.Need-element-write-init-2
-element-write-holds-2 c = (bound (other c).before.before.before.before.before).1
+same_length : tie.Need-shape_of-store-then-x-many
+same_length c = c.swap_entries.ensures.0.sized.words ∙ sym (other c).before.before.before.before.before.requires.0.sized.words
 
-same_length : tie.Need-same-length
-same_length c = c.before.before.swap-entries.ensures.0.sized.words ∙ sym (other c).before.before.before.before.before.requires.0.sized.words
-
-returns-2 : tie.Need-returns-2
+returns-2 : tie.Need-returns-then-x-many
 returns-2 c =
-    let e = (other c).before.before in
-    let p = e.before.before.before.pre in
-    let k = c.before.before.swap-entries.ensures in
-    by-exchange p.0 p.1 p.2 p.3 e.if1.left (other c).if2.true k.0 k.1
+    let e = (other c) in
+    let p = e.before.before.before.requires in
+    let k = c.swap_entries.ensures in
+    by-exchange p.0 p.1 p.2 p.3 e.if-s-v.false (other c).if-x-many.true k.0 k.1
 
-move-entry-requires : tie.Need-move-entry-requires
+move-entry-requires : tie.Need-move_entry-requires
 move-entry-requires c κs =
-    let e = c.before.before.before in
-    let b = e.before.before.before in
-    (b.requires.0, b.requires.3.below b.args.v b.requires.1, omega (arith, past e))
+    let e = c in
+    let b = e in
+    (b.requires.0, b.requires.3.below b.args.v b.requires.1, omega (arith, past e.before.before.before.before))
 
 -- where a copy is made
-abbrev free : tie.After-slice-known3 → tie.Else2
+abbrev free : tie.After-slice_known-2-1 → tie.Else-x-many
 free c = c.before.before.before.before
 
-mul-holds-3 : tie.Need-overflow-mul-holds-3
-mul-holds-3 c = omega (arith, bound (free c).before.before.before.before.before)
+mul-holds-3 : tie.Need-offset_bounds-holds-s-2
+mul-holds-3 c = omega (arith, bound (free c).before.before.before.before.before.before.before)
 
-element-write-holds-3 : tie.Need-element-write-init-3
-element-write-holds-3 c = (bound (free c).before.before.before.before.before).1
+same-length-2 : tie.Need-shape_of-store
+same-length-2 c = c.move_entry.ensures.packed.sized.words ∙ sym (free c).before.before.before.before.before.requires.0.sized.words
 
-same-length-2 : tie.Need-same-length-2
-same-length-2 c = c.before.before.move-entry.ensures.packed.sized.words ∙ sym (free c).before.before.before.before.before.requires.0.sized.words
-
-returns-3 : tie.Need-returns-3
+returns-3 : tie.Need-returns
 returns-3 c =
-    let e = (free c).before.before in
-    let p = e.before.before.before.pre in
-    let k = c.before.before.move-entry.ensures in
-    by_copy p.0 p.1 p.2 p.3 e.if1.left (free c).if2.false k.packed k.entries
+    let e = (free c) in
+    let p = e.before.before.before.requires in
+    let k = c.move_entry.ensures in
+    by_copy p.0 p.1 p.2 p.3 e.if-s-v.false (free c).if-x-many.false k.packed k.entries
 
-pub settle-spec : {M : Type 1} → statement M
-settle-spec =
-    tie.close
-    (tie.spec
+new-bounds-holds-v-2 : tie.Need-bounds-holds-v-2
+new-bounds-holds-v-2 c = search rules
+
+new-bounds-holds-s : tie.Need-bounds-holds-s
+new-bounds-holds-s c = search rules
+
+new-bounds-holds-s-2 : tie.Need-bounds-holds-s-2
+new-bounds-holds-s-2 c = search rules
+
+pub settle_spec : {M : Type 1} → statement M
+settle_spec = tie.close (tie.spec
     mul-s
     element-copy-out-s
     returns
@@ -115,16 +114,16 @@ settle-spec =
     mul-order
     element-write-order
     mul_holds
-    element-write-holds
+    new-bounds-holds-v-2
     swap-entries-requires
     mul-order-2
     element-write-order-2
     mul-holds-2
-    element-write-holds-2
+    new-bounds-holds-s
     same_length
     returns-2
     move-entry-requires
     mul-holds-3
-    element-write-holds-3
+    new-bounds-holds-s-2
     same-length-2
     returns-3)

@@ -17,46 +17,44 @@ long c = lines_long c.args.text.now c.requires.0
 abbrev number : tie.Start → ℕ → ℕ
 number c j = get_or (get_or (lines_on c.args.text.now) 0 []) j 0
 
-number-at-requires : tie.Need-number-at-requires
-number-at-requires c κs = omega (arith, long c.before.before, c.before.before.requires.1)
+number-at-requires : tie.Need-number_at-requires
+number-at-requires c κs = omega (arith, long c.before.before, c.requires.1)
 
-slice-write-e : tie.Need-slice-write-e
+slice-write-e : tie.Need-bounds-e-0
 slice-write-e c = search rules
 
-number-at-requires-2 : tie.Need-number-at-requires-2
-number-at-requires-2 c κs = omega (arith, long c.before.before.before, c.before.before.before.requires.1)
+number-at-requires-2 : tie.Need-number_at-requires-2
+number-at-requires-2 c κs = omega (arith, long c.before.before.before, c.requires.1)
 
-slice-write-e-2 : tie.Need-slice-write-e-2
+slice-write-e-2 : tie.Need-bounds-e-1
 slice-write-e-2 c = simp length-set (search rules)
 
-slice-write-e-3 : tie.Need-slice-write-e-3
+slice-write-e-3 : tie.Need-bounds-e-2
 slice-write-e-3 c = simp length-set (search rules)
 
-slice-write-e-4 : tie.Need-slice-write-e-4
+slice-write-e-4 : tie.Need-bounds-e-3
 slice-write-e-4 c = simp length-set (search rules)
 
-number-at-requires-3 : tie.Need-number-at-requires-3
-number-at-requires-3 c κs = omega (arith, long c.before.before.before.before, c.before.before.before.before.requires.1)
+number-at-requires-3 : tie.Need-number_at-requires-3
+number-at-requires-3 c κs = omega (arith, long c.before.before.before.before, c.requires.1)
 
-slice-write-e-5 : tie.Need-slice-write-e-5
+slice-write-e-5 : tie.Need-bounds-e-4
 slice-write-e-5 c = simp length-set (search rules)
 
-same_length : tie.Need-same-length
+same_length : tie.Need-shape_of-e
 same_length c = simp length-set (search rules)
 
 returns : tie.Need-returns
 returns c =
-    let s = c.before.before.before.before.before in
+    let s = c in
     let t = s.args.text.now in
     let f = field_at t s.requires.0 in
-    head-written s.args.e.now c.before.before.number_at.result c.before.number-at2.result c.number-at3.result s.requires.2
-    ∙ ap₂ (λ (x : ℕ) (y : List ℕ). x ∷ y) (c.before.before.number_at.ensures _ (f 0 0 0 refl s.requires.1 (omega arith)))
-    (ap₂ (λ (x z : ℕ). x ∷ 0 ∷ 0 ∷ z ∷ []) (c.before.number-at2.ensures _ (f 21 0 1 refl s.requires.1 (omega arith))) (c.number-at3.ensures _ (f 42 0 2 refl s.requires.1 (omega arith))))
+    head-written s.args.e.now c.number_at.result c.number_at-2.result c.number_at-3.result s.requires.2
+    ∙ ap₂ (λ (x : ℕ) (y : List ℕ). x ∷ y) (c.number_at.ensures _ (f 0 0 0 refl s.requires.1 (omega arith)))
+    (ap₂ (λ (x z : ℕ). x ∷ 0 ∷ 0 ∷ z ∷ []) (c.number_at-2.ensures _ (f 21 0 1 refl s.requires.1 (omega arith))) (c.number_at-3.ensures _ (f 42 0 2 refl s.requires.1 (omega arith))))
 
-pub read-head-spec : {M : Type 1} → statement M
-read-head-spec =
-    tie.close
-    (tie.spec
+pub read_head_spec : {M : Type 1} → statement M
+read_head_spec = tie.close (tie.spec
     number-at-requires
     slice-write-e
     number-at-requires-2

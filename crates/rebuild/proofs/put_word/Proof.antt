@@ -4,17 +4,21 @@ use Rattle.rebuild.proofs.Words.{put}
 use Rattle.rebuild.proofs.put_word.Statement.{statement}
 use Rattle.rebuild.proofs.put_word.Tie as tie
 
-mul-e : tie.Need-overflow-mul-e
+mul-e : tie.Need-offset_bounds-e-j
 mul-e c = search rules
 
-slice-write-e : tie.Need-slice-write-e
+slice-write-e : tie.Need-bounds-e-j
 slice-write-e c = search rules
 
-same_length : tie.Need-same-length
+same_length : tie.Need-shape_of-e
 same_length c = search rules
 
 returns : tie.Need-returns
 returns c = put c.args.size c.args.j c.args.v c.args.e.now c.requires.0 c.requires.1
 
-pub put-word-spec : {M : Type 1} → statement M
-put-word-spec = tie.close (tie.spec mul-e slice-write-e same_length returns)
+pub put_word_spec : {M : Type 1} → statement M
+put_word_spec = tie.close (tie.spec
+    mul-e
+    slice-write-e
+    same_length
+    returns)

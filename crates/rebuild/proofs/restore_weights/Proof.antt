@@ -4,15 +4,18 @@ use Rattle.rebuild.specs.Saved.{with_word, with_weights}
 use Rattle.rebuild.proofs.restore_weights.Statement.{statement}
 use Rattle.rebuild.proofs.restore_weights.Tie as tie
 
-restore-word-requires : tie.Need-restore-word-requires
+restore-word-requires : tie.Need-restore_word-requires
 restore-word-requires c κs = search rules
 
-same_length : tie.Need-same-length
+same_length : tie.Need-shape_of-store
 same_length c = search rules
 
 returns : tie.Need-returns
 unfolding with_word with_weights
-returns c = c.before.before.restore-word.ensures
+returns c = c.restore_word.ensures
 
-pub restore-weights-spec : {M : Type 1} → statement M
-restore-weights-spec = tie.close (tie.spec restore-word-requires same_length returns)
+pub restore_weights_spec : {M : Type 1} → statement M
+restore_weights_spec = tie.close (tie.spec
+    restore-word-requires
+    same_length
+    returns)

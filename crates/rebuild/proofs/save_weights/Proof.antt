@@ -5,12 +5,14 @@ use Rattle.rebuild.specs.Saved.{word_at}
 use Rattle.rebuild.proofs.save_weights.Statement.{statement}
 use Rattle.rebuild.proofs.save_weights.Tie as tie
 
-save-word-requires : tie.Need-save-word-requires
+save-word-requires : tie.Need-save_word-requires
 save-word-requires c κs = search rules
 
 returns : tie.Need-returns
 unfolding word_at words_of
-returns c = c.save-word.ensures
+returns c = c.save_word.ensures
 
-pub save-weights-spec : {M : Type 1} → statement M
-save-weights-spec = tie.close (tie.spec save-word-requires returns)
+pub save_weights_spec : {M : Type 1} → statement M
+save_weights_spec = tie.close (tie.spec
+    save-word-requires
+    returns)

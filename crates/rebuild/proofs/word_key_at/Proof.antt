@@ -8,15 +8,18 @@ use borrow.Author.Rules.{rules}
 use Rattle.rebuild.proofs.word_key_at.Statement.{statement}
 use Rattle.rebuild.proofs.word_key_at.Tie as tie
 
-rows-of-requires : tie.Need-rows-of-requires
+rows-of-requires : tie.Need-rows_of-requires
 rows-of-requires c κs = search rules
 
-word-key-requires : tie.Need-word-key-requires
+word-key-requires : tie.Need-word_key-requires
 word-key-requires c κs = search rules
 
 returns : tie.Need-returns
 unfolding word_key_of
-returns c = c.word-key.ensures ∙ ap (λ (r : List ℕ). word_key (2 * c.before.before.before.args.size.n) (x_at r) (z_at r)) c.before.rows_of_lem.ensures.0
+returns c = c.word_key.ensures ∙ ap (λ (r : List ℕ). word_key (2 * c.args.size.n) (x_at r) (z_at r)) c.rows_of.ensures.0
 
-pub word-key-at-spec : {M : Type 1} → statement M
-word-key-at-spec = tie.close (tie.spec rows-of-requires word-key-requires returns)
+pub word_key_at_spec : {M : Type 1} → statement M
+word_key_at_spec = tie.close (tie.spec
+    rows-of-requires
+    word-key-requires
+    returns)

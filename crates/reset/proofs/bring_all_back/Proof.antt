@@ -16,124 +16,122 @@ use borrow.Author.Rules.{rules}
 use Rattle.reset.proofs.bring_all_back.Statement.{statement}
 use Rattle.reset.proofs.bring_all_back.Tie as tie
 
-abbrev invariant-loop : tie.invariant-loop
-invariant-loop store₀ order₀ left limits total stay q size keys₀ firsts₀ p₀ out j₀ store order keys firsts p j =
+abbrev invariant-loop-j : tie.invariant-loop-j
+invariant-loop-j store₀ order₀ left limits total stay q size keys₀ firsts₀ p₀ out j₀ store order keys firsts p j =
     (j ≤ total - stay) × Bringing limits.size limits.threshold limits.cutoff q stay total order₀ left store₀ j p order store keys firsts
 
-abbrev decreases-loop : tie.decreases-loop
-decreases-loop store₀ order₀ left limits total stay q size keys₀ firsts₀ p₀ out j₀ store order keys firsts p j =
+abbrev decreases-loop-j : tie.decreases-loop-j
+decreases-loop-j store₀ order₀ left limits total stay q size keys₀ firsts₀ p₀ out j₀ store order keys firsts p j =
     total - stay - j
 
 -- j is one of those that left
-j-low : (c : tie.In-loop invariant-loop decreases-loop) → c.before.loop.j < 256
-j-low c = omega (arith, c.loop-test.true, at_most c.before.loop.invariant.1.packed)
+j-low : (c : tie.In-loop-j invariant-loop-j decreases-loop-j) → c.loop-j.j < 256
+j-low c = omega (arith, c.loop-j-test.true, at_most c.loop-j.invariant.1.packed)
 
 -- its entry lies in the store
-inside : (c : tie.After-entry-len invariant-loop decreases-loop) →
-    let l = c.before.before.before.loop in
-    let left = c.before.before.before.before.before.before.before.before.before.before.before.before.before.args.left.now in
-    get_or left l.j 0 * c.entry-len.result + c.entry-len.result ≤ length l.store
+inside : (c : tie.After-entry_len invariant-loop-j decreases-loop-j) →
+    let l = c.loop-j in
+    let left = c.args.left.now in
+    get_or left l.j 0 * c.entry_len.result + c.entry_len.result ≤ length l.store
 inside c =
-    let l = c.before.before.before.loop in
-    let s = c.before.before.before.before.before.before.before.before.before.before.before.before.before in
+    let l = c.loop-j in
+    let s = c in
     let a = s.args in
     let size = a.limits.size in
     let place = get_or a.left.now l.j 0 in
-    rw c.entry-len.ensures
-    (omega (arith, stride-le (entry_len size) place a.total (s.requires.0.5.below l.j c.before.before.loop-test.true), within size a.total l.store l.invariant.1.packed))
+    rw c.entry_len.ensures
+    (omega (arith, stride-le (entry_len size) place a.total (s.requires.0.5.below l.j c.loop-j-test.true), within size a.total l.store l.invariant.1.packed))
 
-note-all-requires : tie.Need-note-all-requires invariant-loop decreases-loop
+note-all-requires : tie.Need-note_all-requires invariant-loop-j decreases-loop-j
 note-all-requires c κs =
-    let p = c.before.before.before.before.before.before.before.requires.0 in
+    let p = c.requires.0 in
     let b = at_most p.0 in
     (packed-within p.0, omega (arith, p.1, b), picked-in p.0 (omega (arith, p.1, p.2, b)) p.4, refl, refl)
 
-start-requires : tie.Need-start-requires invariant-loop decreases-loop
+start-requires : tie.Need-start-p-requires invariant-loop-j decreases-loop-j
 start-requires c κs = search rules
 
-sub_out : tie.Need-overflow-sub-out invariant-loop decreases-loop
-sub_out c = c.before.before.before.before.before.before.before.before.before.requires.0.1
+sub_out : tie.Need-overflow_sub-out invariant-loop-j decreases-loop-j
+sub_out c = c.requires.0.1
 
-loop-holds : tie.Need-loop-init invariant-loop decreases-loop
+loop-holds : tie.Need-loop-j-init invariant-loop-j decreases-loop-j
 loop-holds c =
-    let a = c.before.before.before.before.before.before.before.before.before.args in
+    let a = c.args in
     let m = a.limits in
-    let p = c.before.before.before.before.before.before.before.before.before.requires.0 in
-    let none = none-brought m.size m.threshold m.cutoff a.q a.stay a.total a.order.now a.left.now a.store.now _ _ p.0 p.2 p.4 p.6 c.before.note-all.ensures in
-    (omega arith, rw c.start.ensures none)
+    let p = c.requires.0 in
+    let none = none-brought m.size m.threshold m.cutoff a.q a.stay a.total a.order.now a.left.now a.store.now _ _ p.0 p.2 p.4 p.6 c.note_all.ensures in
+    (omega arith, rw c.start-p.ensures none)
 
-mul-place : tie.Need-overflow-mul-place invariant-loop decreases-loop
+mul-place : tie.Need-offset_bounds-left-j invariant-loop-j decreases-loop-j
 mul-place c = omega (arith, j-low c)
 
-element-copy-out-place : tie.Need-element-copy-out-place invariant-loop decreases-loop
-element-copy-out-place c = j-low c
+element-copy-out-place : tie.Need-bounds-left-j invariant-loop-j decreases-loop-j
+element-copy-out-place c = j-low c.before
 
-entry-len-requires : tie.Need-entry-len-requires invariant-loop decreases-loop
+entry-len-requires : tie.Need-entry_len-requires invariant-loop-j decreases-loop-j
 entry-len-requires c κs = search rules
 
-mul-weight : tie.Need-overflow-mul-weight invariant-loop decreases-loop
+mul-weight : tie.Need-overflow_mul-weight invariant-loop-j decreases-loop-j
 mul-weight c = omega (arith, inside c)
 
-mul-weight-2 : tie.Need-overflow-mul-weight-2 invariant-loop decreases-loop
+mul-weight-2 : tie.Need-offset_bounds-store-place invariant-loop-j decreases-loop-j
 mul-weight-2 c = omega (arith, inside c)
 
-slice-read-weight : tie.Need-slice-read-weight invariant-loop decreases-loop
+slice-read-weight : tie.Need-bounds-store-place invariant-loop-j decreases-loop-j
 slice-read-weight c = omega (arith, inside c.before)
 
-bring-back-requires : tie.Need-bring-back-requires invariant-loop decreases-loop
+bring-back-requires : tie.Need-bring_back-settled-requires invariant-loop-j decreases-loop-j
 bring-back-requires c κs =
-    let s = c.before.before.before.before.before.before.before.before.before.before.before.before.before.before.before.before.before.before in
+    let s = c in
     let p = s.requires in
-    let l = c.before.before.before.before.before.before.before.before.loop in
-    let h = c.before.before.before.before.before.before.before.loop-test.true in
+    let l = c.loop-j in
+    let h = c.loop-j-test.true in
     let t = l.invariant.1 in
     let room = room-there _ _ _ _ _ _ _ _ _ p.0.3 p.0.5 _ _ _ _ _ _ t h in
     let few = few-there _ _ _ _ _ _ _ _ _ p.0.3 p.0.5 _ _ _ _ _ _ t h p.1.0 in
     ((t.packed, t.long, t.once, t.noted, room, p.0.5.below l.j h, λ u g. t.apart u l.j g (le_refl l.j) h), (few, p.1.1))
 
-counted-requires : tie.Need-counted-requires invariant-loop decreases-loop
+counted-requires : tie.Need-counted-p-requires invariant-loop-j decreases-loop-j
 counted-requires c κs =
-    let s = c.before.before.before.before.before.before.before.before.before.before.before.before.before.before.before.before.before.before.before.before.before in
+    let s = c in
     let p = s.requires in
-    let l = c.before.before.before.before.before.before.before.before.before.before.before.loop in
-    let h = c.before.before.before.before.before.before.before.before.before.before.loop-test.true in
+    let l = c.loop-j in
+    let h = c.loop-j-test.true in
     let t = l.invariant.1 in
-    let i = c.before.before.before.before.before.before.before.before.before.before in
-    let some = few-tested _ _ _ _ _ _ _ _ _ p.0.3 p.0.5 _ _ _ _ _ _ t h _ _ _ _ _ c.before.before.bring-back.ensures in
-    (record { settled = omega (arith, t.light.settled, j-low i); compared = omega (arith, t.light.compared, j-low i) }, some, omega (arith, t.few, h, p.0.1, at_most t.packed))
+    let i = c in
+    let some = few-tested _ _ _ _ _ _ _ _ _ p.0.3 p.0.5 _ _ _ _ _ _ t h _ _ _ _ _ c.bring_back-settled.ensures in
+    (record { settled = omega (arith, t.light.settled, j-low i.before.before.before.before.before.before.before.before.before.before.before); compared = omega (arith, t.light.compared, j-low i.before.before.before.before.before.before.before.before.before.before.before) }, some, omega (arith, t.few, h, p.0.1, at_most t.packed))
 
-add-j : tie.Need-overflow-add-j invariant-loop decreases-loop
-add-j c = omega (arith, j-low c.before.before.before.before.before.before.before.before.before.before.before)
+add-j : tie.Need-overflow_add-j invariant-loop-j decreases-loop-j
+add-j c = omega (arith, j-low c.before.before.before.before.before.before.before.before.before.before.before.before)
 
-loop-less : tie.Need-loop-smaller invariant-loop decreases-loop
-loop-less c = omega (arith, c.before.before.before.before.before.before.before.before.before.before.before.loop-test.true)
+loop-less : tie.Need-loop-j-smaller invariant-loop-j decreases-loop-j
+loop-less c = omega (arith, c.loop-j-test.true)
 
-loop-again : tie.Need-loop-preserved invariant-loop decreases-loop
+loop-again : tie.Need-loop-j-preserved invariant-loop-j decreases-loop-j
 loop-again c =
-    let s = c.before.before.before.before.before.before.before.before.before.before.before.before.before.before.before.before.before.before.before.before.before.before in
+    let s = c in
     let p = s.requires in
-    let l = c.before.before.before.before.before.before.before.before.before.before.before.before.loop in
-    let h = c.before.before.before.before.before.before.before.before.before.before.before.loop-test.true in
+    let l = c.loop-j in
+    let h = c.loop-j-test.true in
     let t = l.invariant.1 in
-    (omega (arith, h), one-brought _ _ _ _ _ _ _ _ _ p.0.3 p.0.5 _ _ _ _ _ _ t h _ _ _ _ _ c.before.before.before.bring-back.ensures _ (weight-word _ _ _ _ c.before.before.before.before.before.before.before.before.before.entry-len.ensures) _ c.counted.ensures)
+    (omega (arith, h), one-brought _ _ _ _ _ _ _ _ _ p.0.3 p.0.5 _ _ _ _ _ _ t h _ _ _ _ _ c.bring_back-settled.ensures _ (weight-word _ _ _ _ c.entry_len.ensures) _ c.counted-p.ensures)
 
-same_length : tie.Need-same-length invariant-loop decreases-loop
-same_length c = c.before.loop.invariant.1.packed.sized.words ∙ sym c.before.before.before.before.before.before.before.before.before.before.before.requires.0.0.sized.words
+same_length : tie.Need-shape_of-store invariant-loop-j decreases-loop-j
+same_length c = c.loop-j.invariant.1.packed.sized.words ∙ sym c.requires.0.0.sized.words
 
-returns : tie.Need-returns invariant-loop decreases-loop
+returns : tie.Need-returns invariant-loop-j decreases-loop-j
 returns c =
-    let l = c.before.loop in
-    let a = c.before.before.before.before.before.before.before.before.before.before.before.args in
-    let p = c.before.before.before.before.before.before.before.before.before.before.before.requires.0 in
-    let e : l.j ≡ a.total - a.stay = omega (arith, c.loop-test.false, l.invariant.0) in
+    let l = c.loop-j in
+    let a = c.args in
+    let p = c.requires.0 in
+    let e : l.j ≡ a.total - a.stay = omega (arith, c.loop-j-test.false, l.invariant.0) in
     all-brought _ _ _ _ _ _ _ _ _ p.3 p.1 _ _ _ _ _ (rw e at l.invariant.1)
 
-pub bring-all-back-spec : {M : Type 1} → statement M
-bring-all-back-spec =
-    tie.close
-    (tie.spec
-    invariant-loop
-    decreases-loop
+pub bring_all_back_spec : {M : Type 1} → statement M
+bring_all_back_spec = tie.close (tie.spec
+    invariant-loop-j
+    decreases-loop-j
     note-all-requires
     start-requires
     sub_out

@@ -12,20 +12,24 @@ use Rattle.reset.proofs.ready.Tie as tie
 abbrev readied : tie.Start → Bool → List Keyed
 readied c dirty = let es = listed c.args.size c.args.count c.args.store.now in cond dirty (rebuilt_entries c.args.size.n es) es
 
-rebuild-keys-requires : tie.Need-rebuild-keys-requires
+rebuild-keys-requires : tie.Need-rebuild_keys-requires
 rebuild-keys-requires c κs = search rules
 
-same_length : tie.Need-same-length
+same_length : tie.Need-shape_of-store
 same_length c = search rules
 
-returns : tie.Need-returns
+returns : tie.Need-returns-then-dirty
 returns c =
-    let t = c.before.before.before.before in
-    let k = c.before.before.rebuild-keys.ensures in
-    (k.0, k.1 ∙ ap (readied t.before.before) (sym t.if1.true))
+    let t = c in
+    let k = c.rebuild_keys.ensures in
+    (k.0, k.1 ∙ ap (readied t.before.before.before.before.before.before) (sym t.if-dirty.true))
 
-returns-2 : tie.Need-returns-2
-returns-2 c = (c.before.before.requires, ap (readied c.before.before) (sym c.if1.false))
+returns-2 : tie.Need-returns-else-dirty
+returns-2 c = (c.requires, ap (readied c.before.before) (sym c.if-dirty.false))
 
-pub ready-spec : {M : Type 1} → statement M
-ready-spec = tie.close (tie.spec rebuild-keys-requires same_length returns returns-2)
+pub ready_spec : {M : Type 1} → statement M
+ready_spec = tie.close (tie.spec
+    rebuild-keys-requires
+    same_length
+    returns
+    returns-2)

@@ -9,62 +9,60 @@ use Rattle.reset.proofs.revive.Statement.{statement}
 use Rattle.reset.proofs.revive.Tie as tie
 
 -- the entry ends within the store
-inside : (c : tie.After-entry-len) → let a = c.before.before.args in a.i * c.entry-len.result + c.entry-len.result ≤ length a.store.now
+inside : (c : tie.After-entry_len-len) → let a = c.args in a.i * c.entry_len-len.result + c.entry_len-len.result ≤ length a.store.now
 inside c =
-    let b = c.before.before in
-    slot-end b.args.size c.entry-len.result _ b.args.total b.requires.0.sized c.entry-len.ensures b.requires.0.room b.args.i b.requires.1
+    let b = c in
+    slot-end b.args.size c.entry_len-len.result _ b.args.total b.requires.0.sized c.entry_len-len.ensures b.requires.0.room b.args.i b.requires.1
 
-entry-len-requires : tie.Need-entry-len-requires
+entry-len-requires : tie.Need-entry_len-len-requires
 entry-len-requires c κs = search rules
 
-mul_at : tie.Need-overflow-mul-at
+mul_at : tie.Need-overflow_mul-at
 mul_at c = omega (arith, inside c)
 
-add-end : tie.Need-overflow-add-end
+add-end : tie.Need-overflow_add-end
 add-end c = omega (arith, inside c)
 
-loss-change-requires : tie.Need-loss-change-requires
+loss-change-requires : tie.Need-loss_change-change-requires
 loss-change-requires c κs = search rules
 
-mul-toggle-entry : tie.Need-overflow-mul-toggle-entry
+mul-toggle-entry : tie.Need-offset_bounds-store-at
 mul-toggle-entry c = omega (arith, inside c.before)
 
-sub-toggle-entry : tie.Need-overflow-sub-toggle-entry
+sub-toggle-entry : tie.Need-slice_bounds-toggle_entry-count
 sub-toggle-entry c = search rules
 
-part-toggle-entry-start : tie.Need-slice-bounds-toggle-entry-start
+part-toggle-entry-start : tie.Need-slice_bounds-toggle_entry-start
 part-toggle-entry-start c = search rules
 
-part-toggle-entry-end : tie.Need-slice-bounds-toggle-entry-end
+part-toggle-entry-end : tie.Need-slice_bounds-toggle_entry-end
 part-toggle-entry-end c = omega (arith, inside c.before)
 
-toggle-entry-requires : tie.Need-toggle-entry-requires
+toggle-entry-requires : tie.Need-toggle_entry-requires
 toggle-entry-requires c κs =
-    let n = c.before.before in
-    let b = n.before.before in
+    let n = c in
+    let b = n in
     let a = b.args in
-    let e = n.entry-len in (
+    let e = n.entry_len-len in (
       limits _ _ b.requires.0.sized,
       part_length a.size e.result e.ensures a.i a.total a.store.now (slots_end a.size e.result _ a.total b.requires.0.sized e.ensures b.requires.0.room) b.requires.1,
       b.requires.2,
-      loss-delta _ _ _ c.before.loss-change.ensures,
+      loss-delta _ _ _ c.loss_change-change.ensures,
     )
 
-same_length : tie.Need-same-length
+same_length : tie.Need-shape_of-store
 same_length c = search rules
 
 returns : tie.Need-returns
 returns c =
-    let f = c.before.before in
-    let n = f.before.before.before in
-    let b = n.before.before in
+    let f = c in
+    let n = f in
+    let b = n in
     let a = b.args in
-    revived a.size a.total a.store.now b.requires.0 n.entry-len.result n.entry-len.ensures a.i b.requires.1 a.q _ f.toggle-entry.ensures
+    revived a.size a.total a.store.now b.requires.0 n.entry_len-len.result n.entry_len-len.ensures a.i b.requires.1 a.q _ f.toggle_entry.ensures
 
-pub revive-spec : {M : Type 1} → statement M
-revive-spec =
-    tie.close
-    (tie.spec
+pub revive_spec : {M : Type 1} → statement M
+revive_spec = tie.close (tie.spec
     entry-len-requires
     mul_at
     add-end

@@ -15,25 +15,29 @@ given c = held c.args.h c.args.store.now
 ready-requires : tie.Need-ready-requires
 ready-requires c κs = search rules
 
-merge-lost-requires : tie.Need-merge-lost-requires
+merge-lost-requires : tie.Need-merge_lost-p-requires
 merge-lost-requires c κs =
-    let b = c.before.before.before.before.before.before.before in
-    let r = c.before.before.before.ready.ensures in
+    let b = c in
+    let r = c.ready.ensures in
     (r.0, rebuilt-few _ _ b.args.store.now _ b.args.h.dirty r.1 (sound-few _ _ _ b.requires.sound), b.requires.qubit)
 
 answer-requires : tie.Need-answer-requires
 answer-requires c κs = search rules
 
-same_length : tie.Need-same-length
+same_length : tie.Need-shape_of-store
 same_length c = search rules
 
 returns : tie.Need-returns
 unfolding accepted
 returns c =
-    let m = c.before.before.before.merge-lost in
-    let b = c.before.before.before.before.before.before.before.before.before.before.before in
-    ap (λ (r : Answer). gave r m.new.0) c.answer.ensures ∙ was-reset (given b) b.args.q _ c.before.before.before.before.before.before.before.ready.ensures.1 m.result _ m.ensures
+    let m = c.merge_lost-p in
+    let b = c in
+    ap (λ (r : Answer). gave r m.new.store) c.answer.ensures ∙ was-reset (given b.before.before.before.before.before.before.before.before.before.before.before) b.args.q _ c.ready.ensures.1 m.result _ m.ensures
 
 pub run_spec : {M : Type 1} → statement M
-run_spec =
-    tie.close (tie.spec ready-requires merge-lost-requires answer-requires same_length returns)
+run_spec = tie.close (tie.spec
+    ready-requires
+    merge-lost-requires
+    answer-requires
+    same_length
+    returns)

@@ -7,16 +7,19 @@ use borrow.Author.Rules.{rules}
 use Rattle.reset.proofs.sought_live.Statement.{statement}
 use Rattle.reset.proofs.sought_live.Tie as tie
 
-live-key-requires : tie.Need-live-key-requires
+live-key-requires : tie.Need-live_key-key-requires
 live-key-requires c κs = search rules
 
-loss-change-requires : tie.Need-loss-change-requires
+loss-change-requires : tie.Need-loss_change-change-requires
 loss-change-requires c κs = search rules
 
 returns : tie.Need-returns
 returns c =
-    let a = c.before.before.before.args in
-    ap₂ (λ (x : Change) (k : ℕ). record { origin = a.lost.place; mutation = loss a.lost.qubit; change = x; key = k }) c.loss-change.ensures c.before.live-key.ensures
+    let a = c.args in
+    ap₂ (λ (x : Change) (k : ℕ). record { origin = a.lost.place; mutation = loss a.lost.qubit; change = x; key = k }) c.loss_change-change.ensures c.live_key-key.ensures
 
-pub sought-live-spec : {M : Type 1} → statement M
-sought-live-spec = tie.close (tie.spec live-key-requires loss-change-requires returns)
+pub sought_live_spec : {M : Type 1} → statement M
+sought_live_spec = tie.close (tie.spec
+    live-key-requires
+    loss-change-requires
+    returns)

@@ -18,14 +18,17 @@ divided room each count h = go (leb count (room / each)) refl
     go true e = sym (le-leb (count * each) room ((le-div_iff_mul-le {k = each} {x = count} {y = room} h).0 (leb-true count (room / each) e)))
     go false e = sym (lt-leb (count * each) room (lt_of_not-le (λ l. not-le_of_lt (leb-false count (room / each) e) ((le-div_iff_mul-le {k = each} {x = count} {y = room} h).1 l))))
 
-returns : tie.Need-returns
-returns c = let a = c.before.args in sym (le-leb (a.count * a.each) a.room (omega (arith, ap (λ (m : ℕ). c.before.args.count * m) c.if1.true, mul-zero c.before.args.count)))
+returns : tie.Need-returns-then-each-eq0
+returns c = let a = c.args in sym (le-leb (a.count * a.each) a.room (omega (arith, ap (λ (m : ℕ). c.args.count * m) c.if-each-eq0.true, mul-zero c.args.count)))
 
-div-result : tie.Need-nonzero-div-result
+div-result : tie.Need-nonzero_div-result
 div-result c = search rules
 
-returns-2 : tie.Need-returns-2
-returns-2 c = let h : 0 < c.before.args.each = omega (arith, c.if1.false) in divided c.before.args.room c.before.args.each c.before.args.count h
+returns-2 : tie.Need-returns
+returns-2 c = let h : 0 < c.args.each = omega (arith, c.if-each-eq0.false) in divided c.args.room c.args.each c.args.count h
 
-pub enough-spec : {M : Type 1} → statement M
-enough-spec = tie.close (tie.spec returns div-result returns-2)
+pub enough_spec : {M : Type 1} → statement M
+enough_spec = tie.close (tie.spec
+    returns
+    div-result
+    returns-2)

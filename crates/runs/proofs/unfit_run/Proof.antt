@@ -10,11 +10,13 @@ use Rattle.runs.proofs.unfit_run.Tie as tie
 abbrev ran : Header → Ran
 ran h = record { number = does_not_fit; made = 0; header = h }
 
-zero-header-requires : tie.Need-zero-header-requires
+zero-header-requires : tie.Need-zero_header-requires
 zero-header-requires c κs = search rules
 
 returns : tie.Need-returns
-returns c = ap ran c.zero-header.ensures
+returns c = ap ran c.zero_header.ensures
 
-pub unfit-run-spec : {M : Type 1} → statement M
-unfit-run-spec = tie.close (tie.spec zero-header-requires returns)
+pub unfit_run_spec : {M : Type 1} → statement M
+unfit_run_spec = tie.close (tie.spec
+    zero-header-requires
+    returns)

@@ -13,98 +13,96 @@ use borrow.Author.Rules.{rules}
 use Rattle.seeking.proofs.coefficients_near.Statement.{statement}
 use Rattle.seeking.proofs.coefficients_near.Tie as tie
 
-abbrev invariant-loop : tie.invariant-loop
-invariant-loop e parent threshold rows coefs parent-coefs count limit j₀ j =
+abbrev invariant-loop-j : tie.invariant-loop-j
+invariant-loop-j e parent threshold rows coefs parent-coefs count limit j₀ j =
     (j ≤ count) × NearBelow limit coefs parent-coefs count j
 
-abbrev decreases-loop : tie.decreases-loop
-decreases-loop e parent threshold rows coefs parent-coefs count limit j₀ j =
+abbrev decreases-loop-j : tie.decreases-loop-j
+decreases-loop-j e parent threshold rows coefs parent-coefs count limit j₀ j =
     count - j
 
-mul-rows : tie.Need-overflow-mul-rows invariant-loop decreases-loop
+mul-rows : tie.Need-overflow_mul-rows invariant-loop-j decreases-loop-j
 mul-rows c = search rules
 
-add-rows : tie.Need-overflow-add-rows invariant-loop decreases-loop
+add-rows : tie.Need-overflow_add-rows invariant-loop-j decreases-loop-j
 add-rows c = search rules
 
-sub-coefs : tie.Need-overflow-sub-coefs invariant-loop decreases-loop
+sub-coefs : tie.Need-slice_bounds-coefs-count invariant-loop-j decreases-loop-j
 sub-coefs c = search rules
 
-part-coefs-start : tie.Need-slice-bounds-coefs-start invariant-loop decreases-loop
+part-coefs-start : tie.Need-slice_bounds-coefs-start invariant-loop-j decreases-loop-j
 part-coefs-start c = search rules
 
-part-coefs-end : tie.Need-slice-bounds-coefs-end invariant-loop decreases-loop
+part-coefs-end : tie.Need-slice_bounds-coefs-end invariant-loop-j decreases-loop-j
 part-coefs-end c = search rules
 
-sub-parent-coefs : tie.Need-overflow-sub-parent-coefs invariant-loop decreases-loop
+sub-parent-coefs : tie.Need-slice_bounds-parent_coefs-count invariant-loop-j decreases-loop-j
 sub-parent-coefs c = search rules
 
-part-parent-coefs-start : tie.Need-slice-bounds-parent-coefs-start invariant-loop decreases-loop
+part-parent-coefs-start : tie.Need-slice_bounds-parent_coefs-start invariant-loop-j decreases-loop-j
 part-parent-coefs-start c = search rules
 
-part-parent-coefs-end : tie.Need-slice-bounds-parent-coefs-end invariant-loop decreases-loop
+part-parent-coefs-end : tie.Need-slice_bounds-parent_coefs-end invariant-loop-j decreases-loop-j
 part-parent-coefs-end c = search rules
 
-shared-slice-read-count : tie.Need-shared-slice-read-count invariant-loop decreases-loop
+shared-slice-read-count : tie.Need-bounds-e-4 invariant-loop-j decreases-loop-j
 shared-slice-read-count c = search rules
 
-near-unread-requires : tie.Need-near-unread-requires invariant-loop decreases-loop
+near-unread-requires : tie.Need-near_unread-j-requires invariant-loop-j decreases-loop-j
 unfolding entry_of
 near-unread-requires c κs =
-    let s = c.before.before.before.before.before.before in
+    let s = c in
     let a = s.args in (
       omega (arith, s.requires.1.0, s.requires.1.1, coefs-length a.size a.e.now s.requires.0.1),
       omega (arith, s.requires.1.0, s.requires.1.1, coefs-length a.size a.parent.now s.requires.0.2),
     )
 
-loop-holds : tie.Need-loop-init invariant-loop decreases-loop
-loop-holds c = c.near-unread.ensures
+loop-holds : tie.Need-loop-j-init invariant-loop-j decreases-loop-j
+loop-holds c = c.near_unread-j.ensures
 
-near-at-requires : tie.Need-near-at-requires invariant-loop decreases-loop
+near-at-requires : tie.Need-near_at-requires invariant-loop-j decreases-loop-j
 unfolding entry_of
 near-at-requires c κs =
-    let s = c.before.before.before.before.before.before.before.before.before in
+    let s = c in
     let a = s.args in (
-      omega (arith, s.requires.1.0, s.requires.1.1, c.loop-test.true, coefs-length a.size a.e.now s.requires.0.1),
+      omega (arith, s.requires.1.0, s.requires.1.1, c.loop-j-test.true, coefs-length a.size a.e.now s.requires.0.1),
       omega (arith, s.requires.1.0, s.requires.1.1, coefs-length a.size a.parent.now s.requires.0.2),
     )
 
-add-j : tie.Need-overflow-add-j invariant-loop decreases-loop
+add-j : tie.Need-overflow_add-j invariant-loop-j decreases-loop-j
 unfolding entry_of
-add-j c = let s = c.before.before.before.before.before.before.before.before.before.before.before in omega (arith, s.requires.1.0, s.requires.1.1, c.before.before.loop-test.true, s.requires.0.0.coefficients)
+add-j c = let s = c in omega (arith, s.requires.1.0, s.requires.1.1, c.loop-j-test.true, s.requires.0.0.coefficients)
 
-loop-less : tie.Need-loop-smaller invariant-loop decreases-loop
+loop-less : tie.Need-loop-j-smaller invariant-loop-j decreases-loop-j
 loop-less c = search rules
 
-loop-again : tie.Need-loop-preserved invariant-loop decreases-loop
+loop-again : tie.Need-loop-j-preserved invariant-loop-j decreases-loop-j
 loop-again c =
-    let l = c.before.before.before.loop in
-    (omega (arith, c.before.before.loop-test.true), near-more _ _ _ _ l.j _ c.before.near-at.ensures c.if1.true l.invariant.1)
+    let l = c.loop-j in
+    (omega (arith, c.loop-j-test.true), near-more _ _ _ _ l.j _ c.near_at.ensures c.if-near_at.true l.invariant.1)
 
-returns : tie.Need-returns invariant-loop decreases-loop
+returns : tie.Need-returns-else-near_at invariant-loop-j decreases-loop-j
 unfolding entry_of
 returns c =
-    let s = c.before.before.before.before.before.before.before.before.before.before.before in
+    let s = c in
     let a = s.args in
-    let l = c.before.before.before.loop in
-    let near = c.before.near-at.ensures (body_in a.size a.e.now) (body_in a.size a.parent.now) (coefs-part a.size a.e.now) (coefs-part a.size a.parent.now) (sym s.requires.1.0) in
-    sym (all-not (near_at (square a.threshold) (body_in a.size a.e.now) (body_in a.size a.parent.now)) (body_in a.size a.e.now).count l.j c.before.before.loop-test.true (sym near ∙ c.if1.false))
+    let l = c.loop-j in
+    let near = c.near_at.ensures (body_in a.size a.e.now) (body_in a.size a.parent.now) (coefs-part a.size a.e.now) (coefs-part a.size a.parent.now) (sym s.requires.1.0) in
+    sym (all-not (near_at (square a.threshold) (body_in a.size a.e.now) (body_in a.size a.parent.now)) (body_in a.size a.e.now).count l.j c.loop-j-test.true (sym near ∙ c.if-near_at.false))
 
-returns-2 : tie.Need-returns-2 invariant-loop decreases-loop
+returns-2 : tie.Need-returns invariant-loop-j decreases-loop-j
 unfolding entry_of
 returns-2 c =
-    let s = c.before.before.before.before.before.before.before.before.before in
+    let s = c in
     let a = s.args in
-    let l = c.before.loop in
-    let e : l.j ≡ (body_in a.size a.e.now).count = omega (arith, c.loop-test.false) in
+    let l = c.loop-j in
+    let e : l.j ≡ (body_in a.size a.e.now).count = omega (arith, c.loop-j-test.false) in
     sym (rw e at (l.invariant.1 (body_in a.size a.e.now) (body_in a.size a.parent.now) (coefs-part a.size a.e.now) (coefs-part a.size a.parent.now) (sym s.requires.1.0)))
 
-pub coefficients-near-spec : {M : Type 1} → statement M
-coefficients-near-spec =
-    tie.close
-    (tie.spec
-    invariant-loop
-    decreases-loop
+pub coefficients_near_spec : {M : Type 1} → statement M
+coefficients_near_spec = tie.close (tie.spec
+    invariant-loop-j
+    decreases-loop-j
     mul-rows
     add-rows
     sub-coefs

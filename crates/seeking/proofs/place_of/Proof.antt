@@ -6,17 +6,21 @@ use borrow.Author.Rules.{rules}
 use Rattle.seeking.proofs.place_of.Statement.{statement}
 use Rattle.seeking.proofs.place_of.Tie as tie
 
-mul-result : tie.Need-overflow-mul-result
+mul-result : tie.Need-offset_bounds-places-i
 mul-result c = search rules
 
-shared-slice-read-result : tie.Need-shared-slice-read-result
+shared-slice-read-result : tie.Need-bounds-places-i
 shared-slice-read-result c = search rules
 
-returns : tie.Need-returns
-returns c = given c.before.before.args.places.now c.before.before.args.i 0 c.before.before.args.i c.before.if1.true
+returns : tie.Need-returns-then-i-places
+returns c = given c.args.places.now c.args.i 0 c.args.i c.if-i-places.true
 
-returns-2 : tie.Need-returns-2
-returns-2 c = sym (not-given c.before.args.places.now c.before.args.i c.before.args.i (omega arith))
+returns-2 : tie.Need-returns
+returns-2 c = sym (not-given c.args.places.now c.args.i c.args.i (omega arith))
 
-pub place-of-spec : {M : Type 1} → statement M
-place-of-spec = tie.close (tie.spec mul-result shared-slice-read-result returns returns-2)
+pub place_of_spec : {M : Type 1} → statement M
+place_of_spec = tie.close (tie.spec
+    mul-result
+    shared-slice-read-result
+    returns
+    returns-2)

@@ -18,138 +18,136 @@ use borrow.Author.Rules.{rules}
 use Rattle.seeking.proofs.rows_same.Statement.{statement}
 use Rattle.seeking.proofs.rows_same.Tie as tie
 
-abbrev invariant-loop : tie.invariant-loop
-invariant-loop e parent size change r₀ r =
+abbrev invariant-loop-r : tie.invariant-loop-r
+invariant-loop-r e parent size change r₀ r =
     (r ≤ 2 * size.n) × PartAt size.n r
     × ((m : BranchMutation) → change ≡ change_of usual_salts size.n m (body_in size parent).rows → all_below (same_at (drop (head_len + coefs_len size) e) (changed size m parent).rows) (3 * r) ≡ true)
 
-abbrev decreases-loop : tie.decreases-loop
-decreases-loop e parent size change r₀ r =
+abbrev decreases-loop-r : tie.decreases-loop-r
+decreases-loop-r e parent size change r₀ r =
     2 * size.n - r
 
-loop-holds : tie.Need-loop-init invariant-loop decreases-loop
+loop-holds : tie.Need-loop-r-init invariant-loop-r decreases-loop-r
 loop-holds c = (omega arith, inl refl, λ m e. all_none _)
 
-mul-if1 : tie.Need-overflow-mul-if1 invariant-loop decreases-loop
+mul-if1 : tie.Need-overflow_mul-size invariant-loop-r decreases-loop-r
 mul-if1 c = search rules
 
-mul-few-of : tie.Need-overflow-mul-few-of invariant-loop decreases-loop
+mul-few-of : tie.Need-overflow_mul-size-in-loop-r invariant-loop-r decreases-loop-r
 mul-few-of c = search rules
 
-sub-few-of : tie.Need-overflow-sub-few-of invariant-loop decreases-loop
+sub-few-of : tie.Need-overflow_sub-size invariant-loop-r decreases-loop-r
 sub-few-of c = search rules
 
-few-of-requires : tie.Need-few-of-requires invariant-loop decreases-loop
+few-of-requires : tie.Need-few_of-many-requires invariant-loop-r decreases-loop-r
 few-of-requires c κs = search rules
 
-flips-from-requires : tie.Need-flips-from-requires invariant-loop decreases-loop
+flips-from-requires : tie.Need-flips_from-flips-requires invariant-loop-r decreases-loop-r
 flips-from-requires c κs = search rules
 
-mul_at : tie.Need-overflow-mul-at invariant-loop decreases-loop
+mul_at : tie.Need-overflow_mul-at invariant-loop-r decreases-loop-r
 mul_at c = search rules
 
-add_at : tie.Need-overflow-add-at invariant-loop decreases-loop
+add_at : tie.Need-overflow_add-at invariant-loop-r decreases-loop-r
 add_at c = search rules
 
-mul-at-2 : tie.Need-overflow-mul-at-2 invariant-loop decreases-loop
+mul-at-2 : tie.Need-overflow_mul-at-in-loop-r invariant-loop-r decreases-loop-r
 mul-at-2 c = search rules
 
-add-at-2 : tie.Need-overflow-add-at-2 invariant-loop decreases-loop
+add-at-2 : tie.Need-overflow_add-at-in-loop-r invariant-loop-r decreases-loop-r
 add-at-2 c = search rules
 
-mul-end : tie.Need-overflow-mul-end invariant-loop decreases-loop
+mul-end : tie.Need-overflow_mul-end invariant-loop-r decreases-loop-r
 mul-end c = search rules
 
-add-end : tie.Need-overflow-add-end invariant-loop decreases-loop
+add-end : tie.Need-overflow_add-end invariant-loop-r decreases-loop-r
 add-end c = search rules
 
-mul-same-part : tie.Need-overflow-mul-same-part invariant-loop decreases-loop
+mul-same-part : tie.Need-offset_bounds-e-at invariant-loop-r decreases-loop-r
 mul-same-part c = search rules
 
-sub-same-part : tie.Need-overflow-sub-same-part invariant-loop decreases-loop
+sub-same-part : tie.Need-slice_bounds-same_part-count invariant-loop-r decreases-loop-r
 sub-same-part c = search rules
 
-part-same-part-start : tie.Need-slice-bounds-same-part-start invariant-loop decreases-loop
+part-same-part-start : tie.Need-slice_bounds-same_part-start invariant-loop-r decreases-loop-r
 part-same-part-start c = search rules
 
-part-same-part-end : tie.Need-slice-bounds-same-part-end invariant-loop decreases-loop
+part-same-part-end : tie.Need-slice_bounds-same_part-end invariant-loop-r decreases-loop-r
 part-same-part-end c = search rules
 
-mul-same-part-2 : tie.Need-overflow-mul-same-part-2 invariant-loop decreases-loop
+mul-same-part-2 : tie.Need-offset_bounds-parent-at invariant-loop-r decreases-loop-r
 mul-same-part-2 c = search rules
 
-sub-same-part-2 : tie.Need-overflow-sub-same-part-2 invariant-loop decreases-loop
+sub-same-part-2 : tie.Need-slice_bounds-same_part-count-in-loop-r invariant-loop-r decreases-loop-r
 sub-same-part-2 c = search rules
 
-part-same-part-start-2 : tie.Need-slice-bounds-same-part-start-2 invariant-loop decreases-loop
+part-same-part-start-2 : tie.Need-slice_bounds-same_part-start-in-loop-r invariant-loop-r decreases-loop-r
 part-same-part-start-2 c = search rules
 
-part-same-part-end-2 : tie.Need-slice-bounds-same-part-end-2 invariant-loop decreases-loop
+part-same-part-end-2 : tie.Need-slice_bounds-same_part-end-in-loop-r invariant-loop-r decreases-loop-r
 part-same-part-end-2 c = search rules
 
 -- these are the bits of the rows that are compared next
-flips-are : (c : tie.After-flips-from invariant-loop decreases-loop) →
-    let a = c.before.before.before.before.before.before.before.before.args in
+flips-are : (c : tie.After-flips_from-flips invariant-loop-r decreases-loop-r) →
+    let a = c.args in
     (m : BranchMutation) → a.c ≡ change_of usual_salts a.size.n m (body_in a.size a.parent.now).rows
-    → c.flips-from.result ≡ flip_bits m (lent_rows a.size c.before.before.before.before.before.loop.r c.before.few-of.result a.parent.now) 0 c.before.few-of.result
+    → c.flips_from-flips.result ≡ flip_bits m (lent_rows a.size c.loop-r.r c.few_of-many.result a.parent.now) 0 c.few_of-many.result
 flips-are c m e =
-    let s = c.before.before.before.before.before.before.before.before in
+    let s = c in
     let a = s.args in
-    let l = c.before.before.before.before.before.loop in
-    let many = c.before.few-of in
-    c.flips-from.ensures
-    ∙ part-flips a.size.n s.requires.0.qubits l.r many.result c.before.before.before.if1.true many.ensures m (body_in a.size a.parent.now).rows a.c e l.invariant.1
+    let l = c.loop-r in
+    let many = c.few_of-many in
+    c.flips_from-flips.ensures
+    ∙ part-flips a.size.n s.requires.0.qubits l.r many.result c.loop-r-test.true many.ensures m (body_in a.size a.parent.now).rows a.c e l.invariant.1
     ∙ sym (lent-bits a.size m a.parent.now a.e.now s.requires.2 l.r many.result)
 
-same-part-requires : tie.Need-same-part-requires invariant-loop decreases-loop
+same-part-requires : tie.Need-same_part-requires invariant-loop-r decreases-loop-r
 same-part-requires c κs =
-    let s = c.before.before.before.before.before.before.before.before.before.before.before in
+    let s = c in
     let a = s.args in
-    let l = c.before.before.before.before.before.before.before.before.loop in
-    let many = c.before.before.before.before.few-of in
-    let b : l.r + many.result ≤ 2 * a.size.n = omega (arith, many.ensures, c.before.before.before.before.before.before.if1.true) in
+    let l = c.loop-r in
+    let many = c.few_of-many in
+    let b : l.r + many.result ≤ 2 * a.size.n = omega (arith, many.ensures, c.loop-r-test.true) in
     (omega (arith, many.ensures), lent_length a.size l.r many.result a.e.now s.requires.1 b, lent_length a.size l.r many.result a.parent.now s.requires.2 b)
 
-add_r : tie.Need-overflow-add-r invariant-loop decreases-loop
-add_r c = omega (arith, c.before.before.before.before.before.before.few-of.ensures, c.before.before.before.before.before.before.before.before.before.before.before.before.before.requires.0.qubits)
+add_r : tie.Need-overflow_add-r invariant-loop-r decreases-loop-r
+add_r c = omega (arith, c.few_of-many.ensures, c.requires.0.qubits)
 
-loop-less : tie.Need-loop-smaller invariant-loop decreases-loop
-loop-less c = omega (arith, c.before.before.before.before.before.before.few-of.ensures, c.before.before.before.before.before.before.before.before.if1.true)
+loop-less : tie.Need-loop-r-smaller invariant-loop-r decreases-loop-r
+loop-less c = omega (arith, c.few_of-many.ensures, c.loop-r-test.true)
 
-loop-again : tie.Need-loop-preserved invariant-loop decreases-loop
+loop-again : tie.Need-loop-r-preserved invariant-loop-r decreases-loop-r
 loop-again c =
-    let s = c.before.before.before.before.before.before.before.before.before.before.before.before.before in
+    let s = c in
     let a = s.args in
-    let l = c.before.before.before.before.before.before.before.before.before.before.loop in
-    let many = c.before.before.before.before.before.before.few-of in
-    let b : l.r + many.result ≤ 2 * a.size.n = omega (arith, many.ensures, c.before.before.before.before.before.before.before.before.if1.true) in (
+    let l = c.loop-r in
+    let many = c.few_of-many in
+    let b : l.r + many.result ≤ 2 * a.size.n = omega (arith, many.ensures, c.loop-r-test.true) in (
       b,
-      next-part a.size.n s.requires.0.qubits l.r many.result c.before.before.before.before.before.before.before.before.if1.true many.ensures l.invariant.1,
-      λ m e. part_same a.size m a.parent.now a.e.now s.requires.2 l.r many.result b (c.before.same-part.ensures m (flips-are c.before.before.before.before.before m e)) (l.invariant.2 m e) c.if2.true,
+      next-part a.size.n s.requires.0.qubits l.r many.result c.loop-r-test.true many.ensures l.invariant.1,
+      λ m e. part_same a.size m a.parent.now a.e.now s.requires.2 l.r many.result b (c.same_part.ensures m (flips-are c.before.before.before.before.before m e)) (l.invariant.2 m e) c.if-same_part.true,
     )
 
-returns : tie.Need-returns invariant-loop decreases-loop
+returns : tie.Need-returns-else-same_part invariant-loop-r decreases-loop-r
 returns c =
-    let s = c.before.before.before.before.before.before.before.before.before.before.before.before.before in
+    let s = c in
     let a = s.args in
-    let l = c.before.before.before.before.before.before.before.before.before.before.loop in
-    let many = c.before.before.before.before.before.before.few-of in
-    let b : l.r + many.result ≤ 2 * a.size.n = omega (arith, many.ensures, c.before.before.before.before.before.before.before.before.if1.true) in
-    λ m e. sym (part-differs a.size m a.parent.now a.e.now s.requires.2 l.r many.result b (c.before.same-part.ensures m (flips-are c.before.before.before.before.before m e)) c.if2.false)
+    let l = c.loop-r in
+    let many = c.few_of-many in
+    let b : l.r + many.result ≤ 2 * a.size.n = omega (arith, many.ensures, c.loop-r-test.true) in
+    λ m e. sym (part-differs a.size m a.parent.now a.e.now s.requires.2 l.r many.result b (c.same_part.ensures m (flips-are c.before.before.before.before.before m e)) c.if-same_part.false)
 
-returns-2 : tie.Need-returns-2 invariant-loop decreases-loop
+returns-2 : tie.Need-returns invariant-loop-r decreases-loop-r
 returns-2 c =
-    let s = c.before.before.before.before.before in
+    let s = c in
     let a = s.args in
-    let l = c.before.before.loop in
-    λ m e. sym (rows_all a.size m a.parent.now a.e.now s.requires.2 l.r 0 (omega (arith, c.if1.false)) (l.invariant.2 m e))
+    let l = c.loop-r in
+    λ m e. sym (rows_all a.size m a.parent.now a.e.now s.requires.2 l.r 0 (omega (arith, c.loop-r-test.false)) (l.invariant.2 m e))
 
-pub rows-same-spec : {M : Type 1} → statement M
-rows-same-spec =
-    tie.close
-    (tie.spec
-    invariant-loop
-    decreases-loop
+pub rows_same_spec : {M : Type 1} → statement M
+rows_same_spec = tie.close (tie.spec
+    invariant-loop-r
+    decreases-loop-r
     loop-holds
     mul-if1
     mul-few-of

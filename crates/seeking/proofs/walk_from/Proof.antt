@@ -35,95 +35,93 @@ decreases-keys store places keys size count threshold first key m change parent 
     count - i
 
 -- the key is that of what is sought
-key-is : (c : tie.After-entry invariant-keys decreases-keys) →
-    let a = c.before.before.before.before.args in
-    a.sought.key ≡ stored_key (branch a.size a.sought.mutation c.entry.result.now)
-key-is c = rw c.entry.ensures.0 c.before.before.before.before.requires.1.0.key
+key-is : (c : tie.After-entry-parent invariant-keys decreases-keys) →
+    let a = c.args in
+    a.sought.key ≡ stored_key (branch a.size a.sought.mutation c.entry-parent.result.now)
+key-is c = rw c.entry-parent.ensures.0 c.requires.1.0.key
 
 -- so is that of an entry which is compared
-same_key : (c : tie.After-entry-at invariant-keys decreases-keys) →
-    let a = c.before.before.before.before.before.before.before.before.before.args in
-    stored_key (entry_of a.size c.entry_at.result.now) ≡ stored_key (branch a.size a.sought.mutation c.before.before.before.before.before.entry.result.now)
+same_key : (c : tie.After-entry_at-e invariant-keys decreases-keys) →
+    let a = c.args in
+    stored_key (entry_of a.size c.entry_at-e.result.now) ≡ stored_key (branch a.size a.sought.mutation c.entry-parent.result.now)
 same_key c =
-    rw c.entry_at.ensures.0 (sym (c.before.before.before.before.before.before.before.before.before.requires.0.3 c.before.before.before.before.keys.i c.before.before.before.if1.false) ∙ c.before.if2.false ∙ key-is c.before.before.before.before.before)
+    rw c.entry_at-e.ensures.0 (sym (c.requires.0.3 c.keys.i c.if-count-i.false) ∙ c.if-keys-place.false ∙ key-is c.before.before.before.before.before.before)
 
 -- it is the entry of the list at its place
-its-entry : (c : tie.After-entry-at invariant-keys decreases-keys) →
-    let a = c.before.before.before.before.before.before.before.before.before.args in
-    let e = entry_of a.size c.entry_at.result.now in
-    get_or (list a.size a.count a.places.now a.store.now) c.before.before.before.before.keys.i e ≡ e
+its-entry : (c : tie.After-entry_at-e invariant-keys decreases-keys) →
+    let a = c.args in
+    let e = entry_of a.size c.entry_at-e.result.now in
+    get_or (list a.size a.count a.places.now a.store.now) c.keys.i e ≡ e
 its-entry c =
-    let a = c.before.before.before.before.before.before.before.before.before.args in
-    gathered-at a.count (seen_at a.size a.places.now a.store.now) c.before.before.before.before.keys.i _ c.before.before.before.if1.false ∙ ap (entry_of a.size) (sym c.entry_at.ensures.0)
+    let a = c.args in
+    gathered-at a.count (seen_at a.size a.places.now a.store.now) c.keys.i _ c.if-count-i.false ∙ ap (entry_of a.size) (sym c.entry_at-e.ensures.0)
 
-entry-requires : tie.Need-entry-requires invariant-keys decreases-keys
-entry-requires c κs = (c.before.before.before.requires.0.0, c.before.before.before.requires.1.0.inside)
+entry-requires : tie.Need-entry-parent-requires invariant-keys decreases-keys
+entry-requires c κs = (c.requires.0.0, c.requires.1.0.inside)
 
 keys-holds : tie.Need-keys-init invariant-keys decreases-keys
-keys-holds c = rw c.entry.ensures.0 c.before.before.before.before.requires.1.1
+keys-holds c = rw c.entry-parent.ensures.0 c.requires.1.1
 
-add-i : tie.Need-overflow-add-i invariant-keys decreases-keys
+add-i : tie.Need-overflow_add-i invariant-keys decreases-keys
 add-i c = search rules
 
-mul-if2 : tie.Need-overflow-mul-if2 invariant-keys decreases-keys
+mul-if2 : tie.Need-offset_bounds-keys-place invariant-keys decreases-keys
 mul-if2 c = search rules
 
-element-copy-out-if2 : tie.Need-element-copy-out-if2 invariant-keys decreases-keys
+element-copy-out-if2 : tie.Need-bounds-keys-place invariant-keys decreases-keys
 element-copy-out-if2 c = search rules
 
-keys-less : tie.Need-keys-smaller invariant-keys decreases-keys
+keys-less : tie.Need-keys-smaller-then-keys-place invariant-keys decreases-keys
 keys-less c = search rules
 
-keys-again : tie.Need-keys-preserved invariant-keys decreases-keys
+keys-again : tie.Need-keys-preserved-then-keys-place invariant-keys decreases-keys
 keys-again c =
-    let a = c.before.before.before.before.before.before.before.before.args in
-    let w = c.before.before.before.keys in
-    let l = c.before.before.if1.false in
+    let a = c.args in
+    let w = c.keys in
+    let l = c.if-count-i.false in
     let seen = seen_at a.size a.places.now a.store.now in
-    other_key _ _ _ _ w.compared w.i w.invariant (listed_below a.size a.threshold (branch a.size a.sought.mutation c.before.before.before.before.entry.result.now) a.count seen w.i l) (seen w.i) (gathered-at a.count seen w.i _ l)
-    (λ g. c.if2.true (c.before.before.before.before.before.before.before.before.requires.0.3 w.i l ∙ g ∙ sym (key-is c.before.before.before.before)))
+    other_key _ _ _ _ w.compared w.i w.invariant (listed_below a.size a.threshold (branch a.size a.sought.mutation c.entry-parent.result.now) a.count seen w.i l) (seen w.i) (gathered-at a.count seen w.i _ l)
+    (λ g. c.if-keys-place.true (c.requires.0.3 w.i l ∙ g ∙ sym (key-is c.before.before.before.before.before)))
 
-add-compared : tie.Need-overflow-add-compared invariant-keys decreases-keys
+add-compared : tie.Need-overflow_add-compared invariant-keys decreases-keys
 add-compared c = search rules
 
-entry-at-requires : tie.Need-entry-at-requires invariant-keys decreases-keys
-entry-at-requires c κs = (c.before.before.before.before.before.before.before.before.requires.0.0, c.before.before.before.before.before.before.before.before.requires.0.2 c.before.before.before.keys.i c.before.before.if1.false)
+entry-at-requires : tie.Need-entry_at-e-requires invariant-keys decreases-keys
+entry-at-requires c κs = (c.requires.0.0, c.requires.0.2 c.keys.i c.if-count-i.false)
 
-alike-changed-requires : tie.Need-alike-changed-requires invariant-keys decreases-keys
+alike-changed-requires : tie.Need-alike_changed-requires invariant-keys decreases-keys
 alike-changed-requires c κs =
-    let s = c.before.before.before.before.before.before.before.before.before in
+    let s = c in
     let b = s.requires.1.0 in
-    let e = c.before.before.before.before.before.entry.ensures in
-    ((s.requires.0.0, c.entry_at.ensures.1, e.1), (rw e.0 b.few, b.below, rw e.0 b.change))
+    let e = c.entry-parent.ensures in
+    ((s.requires.0.0, c.entry_at-e.ensures.1, e.1), (rw e.0 b.few, b.below, rw e.0 b.change))
 
-keys-less-2 : tie.Need-keys-smaller-2 invariant-keys decreases-keys
+keys-less-2 : tie.Need-keys-smaller invariant-keys decreases-keys
 keys-less-2 c = search rules
 
-keys-again-2 : tie.Need-keys-preserved-2 invariant-keys decreases-keys
+keys-again-2 : tie.Need-keys-preserved invariant-keys decreases-keys
 unfolding changed_keyed changed_entry
 keys-again-2 c =
-    let a = c.before.before.before.before.before.before.before.before.before.before.before.args in
-    let w = c.before.before.before.before.before.before.keys in
-    unlike _ _ _ _ w.compared w.i w.invariant (listed_below a.size a.threshold (branch a.size a.sought.mutation c.before.before.before.before.before.before.before.entry.result.now) a.count (seen_at a.size a.places.now a.store.now) w.i c.before.before.before.before.before.if1.false) _ (its-entry c.before.before) (same_key c.before.before) (sym c.before.alike-changed.ensures ∙ c.if3.false)
+    let a = c.args in
+    let w = c.keys in
+    unlike _ _ _ _ w.compared w.i w.invariant (listed_below a.size a.threshold (branch a.size a.sought.mutation c.entry-parent.result.now) a.count (seen_at a.size a.places.now a.store.now) w.i c.if-count-i.false) _ (its-entry c.before.before) (same_key c.before.before) (sym c.alike_changed.ensures ∙ c.if-alike_changed.false)
 
-returns : tie.Need-returns invariant-keys decreases-keys
+returns : tie.Need-returns-then-count-i invariant-keys decreases-keys
 returns c =
-    let a = c.before.before.before.before.before.before.args in
-    rw c.before.before.entry.ensures.0 at
-    (ended _ _ _ _ _ _ c.before.keys.invariant (omega (arith, length-gathered a.count (seen_at a.size a.places.now a.store.now), c.if1.true)))
+    let a = c.args in
+    rw c.entry-parent.ensures.0 at
+    (ended _ _ _ _ _ _ c.keys.invariant (omega (arith, length-gathered a.count (seen_at a.size a.places.now a.store.now), c.if-count-i.true)))
 
-returns-2 : tie.Need-returns-2 invariant-keys decreases-keys
+returns-2 : tie.Need-returns-then-alike_changed invariant-keys decreases-keys
 unfolding changed_keyed changed_entry
 returns-2 c =
-    let a = c.before.before.before.before.before.before.before.before.before.before.before.args in
-    let w = c.before.before.before.before.before.before.keys in
-    rw c.before.before.before.before.before.before.before.entry.ensures.0 at
-    (hit _ _ _ _ w.compared w.i w.invariant (listed_below a.size a.threshold (branch a.size a.sought.mutation c.before.before.before.before.before.before.before.entry.result.now) a.count (seen_at a.size a.places.now a.store.now) w.i c.before.before.before.before.before.if1.false) _ (its-entry c.before.before) (same_key c.before.before) (sym c.before.alike-changed.ensures ∙ c.if3.true))
+    let a = c.args in
+    let w = c.keys in
+    rw c.entry-parent.ensures.0 at
+    (hit _ _ _ _ w.compared w.i w.invariant (listed_below a.size a.threshold (branch a.size a.sought.mutation c.entry-parent.result.now) a.count (seen_at a.size a.places.now a.store.now) w.i c.if-count-i.false) _ (its-entry c.before.before) (same_key c.before.before) (sym c.alike_changed.ensures ∙ c.if-alike_changed.true))
 
-pub walk-from-spec : {M : Type 1} → statement M
-walk-from-spec =
-    tie.close
-    (tie.spec
+pub walk_from_spec : {M : Type 1} → statement M
+walk_from_spec = tie.close (tie.spec
     invariant-keys
     decreases-keys
     entry-requires

@@ -10,25 +10,25 @@ use Rattle.sheet.proofs.Written.{last-column, blank-column, digit-column}
 use Rattle.sheet.proofs.put_number.Statement.{statement}
 use Rattle.sheet.proofs.put_number.Tie as tie
 
-abbrev invariant-loop : tie.invariant-loop
-invariant-loop out₀ v i₀ rest₀ out i rest = (i < length out) × (length out ≡ length out₀) × (leading i rest ++ drop i out ≡ justified (length out₀) v)
+abbrev invariant-loop-i : tie.invariant-loop-i
+invariant-loop-i out₀ v i₀ rest₀ out i rest = (i < length out) × (length out ≡ length out₀) × (leading i rest ++ drop i out ≡ justified (length out₀) v)
 
-abbrev decreases-loop : tie.decreases-loop
-decreases-loop out₀ v i₀ rest₀ out i rest = i
+abbrev decreases-loop-i : tie.decreases-loop-i
+decreases-loop-i out₀ v i₀ rest₀ out i rest = i
 
-sub-i : tie.Need-overflow-sub-i invariant-loop decreases-loop
+sub-i : tie.Need-overflow_sub-i invariant-loop-i decreases-loop-i
 sub-i c = search rules
 
-add-out : tie.Need-overflow-add-out invariant-loop decreases-loop
+add-out : tie.Need-overflow_add-out invariant-loop-i decreases-loop-i
 add-out c = search rules
 
-cast-out : tie.Need-overflow-cast-out invariant-loop decreases-loop
+cast-out : tie.Need-overflow_cast-out invariant-loop-i decreases-loop-i
 cast-out c = search rules
 
-slice-write-out : tie.Need-slice-write-out invariant-loop decreases-loop
+slice-write-out : tie.Need-bounds-out-i invariant-loop-i decreases-loop-i
 slice-write-out c = search rules
 
-loop-holds : tie.Need-loop-init invariant-loop decreases-loop
+loop-holds : tie.Need-loop-i-init invariant-loop-i decreases-loop-i
 loop-holds c =
     let w = c.args.out.now in
     let e : length w ≡ (length w - 1) + 1 = omega (arith, c.requires) in (
@@ -37,56 +37,54 @@ loop-holds c =
       last-column w (length w - 1) c.args.v e ∙ ap (λ (k : ℕ). justified k c.args.v) (sym (length-set w (length w - 1) _)),
     )
 
-sub-i-2 : tie.Need-overflow-sub-i-2 invariant-loop decreases-loop
+sub-i-2 : tie.Need-overflow_sub-i-in-loop-i invariant-loop-i decreases-loop-i
 sub-i-2 c = search rules
 
-slice-write-out-2 : tie.Need-slice-write-out-2 invariant-loop decreases-loop
+slice-write-out-2 : tie.Need-bounds-out-i-then-rest-eq0 invariant-loop-i decreases-loop-i
 slice-write-out-2 c = omega arith
 
-loop-less : tie.Need-loop-smaller invariant-loop decreases-loop
+loop-less : tie.Need-loop-i-smaller-then-rest-eq0 invariant-loop-i decreases-loop-i
 loop-less c = search rules
 
-loop-again : tie.Need-loop-preserved invariant-loop decreases-loop
+loop-again : tie.Need-loop-i-preserved-then-rest-eq0 invariant-loop-i decreases-loop-i
 loop-again c =
-    let l = c.before.before.loop in
+    let l = c.loop-i in
     let e : l.i ≡ (l.i - 1) + 1 = omega arith in
-    (omega (arith, length-set l.out (l.i - 1) blank), length-set l.out (l.i - 1) _ ∙ l.invariant.1, blank-column l.out l.i (l.i - 1) l.rest e (omega arith) c.if1.true ∙ l.invariant.2)
+    (omega (arith, length-set l.out (l.i - 1) blank), length-set l.out (l.i - 1) _ ∙ l.invariant.1, blank-column l.out l.i (l.i - 1) l.rest e (omega arith) c.if-rest-eq0.true ∙ l.invariant.2)
 
-add-out-2 : tie.Need-overflow-add-out-2 invariant-loop decreases-loop
+add-out-2 : tie.Need-overflow_add-out-else-rest-eq0 invariant-loop-i decreases-loop-i
 add-out-2 c = search rules
 
-cast-out-2 : tie.Need-overflow-cast-out-2 invariant-loop decreases-loop
+cast-out-2 : tie.Need-overflow_cast-out-else-rest-eq0 invariant-loop-i decreases-loop-i
 cast-out-2 c = search rules
 
-slice-write-out-3 : tie.Need-slice-write-out-3 invariant-loop decreases-loop
+slice-write-out-3 : tie.Need-bounds-out-i-else-rest-eq0 invariant-loop-i decreases-loop-i
 slice-write-out-3 c = omega arith
 
-loop-less-2 : tie.Need-loop-smaller-2 invariant-loop decreases-loop
+loop-less-2 : tie.Need-loop-i-smaller invariant-loop-i decreases-loop-i
 loop-less-2 c = search rules
 
-loop-again-2 : tie.Need-loop-preserved-2 invariant-loop decreases-loop
+loop-again-2 : tie.Need-loop-i-preserved invariant-loop-i decreases-loop-i
 loop-again-2 c =
-    let l = c.before.before.loop in
+    let l = c.loop-i in
     let e : l.i ≡ (l.i - 1) + 1 = omega arith in
-    (omega (arith, length-set l.out (l.i - 1) (digit (l.rest % 10))), length-set l.out (l.i - 1) _ ∙ l.invariant.1, digit-column l.out l.i (l.i - 1) l.rest e (omega arith) c.if1.false ∙ l.invariant.2)
+    (omega (arith, length-set l.out (l.i - 1) (digit (l.rest % 10))), length-set l.out (l.i - 1) _ ∙ l.invariant.1, digit-column l.out l.i (l.i - 1) l.rest e (omega arith) c.if-rest-eq0.false ∙ l.invariant.2)
 
-same_length : tie.Need-same-length invariant-loop decreases-loop
-same_length c = let w = c.before.before.args.out.now in c.before.loop.invariant.1 ∙ length-set w (length w - 1) _
+same_length : tie.Need-shape_of-out invariant-loop-i decreases-loop-i
+same_length c = let w = c.args.out.now in c.loop-i.invariant.1 ∙ length-set w (length w - 1) _
 
-returns : tie.Need-returns invariant-loop decreases-loop
+returns : tie.Need-returns invariant-loop-i decreases-loop-i
 unfolding leading
 returns c =
-    let l = c.before.loop in
+    let l = c.loop-i in
     let z : l.i ≡ 0 = omega arith in
-    let a = c.before.before.args in
+    let a = c.args in
     sym (ap (λ (k : ℕ). leading k l.rest ++ drop k l.out) z) ∙ l.invariant.2 ∙ ap (λ (k : ℕ). justified k a.v) (length-set a.out.now (length a.out.now - 1) _)
 
-pub put-number-spec : {M : Type 1} → statement M
-put-number-spec =
-    tie.close
-    (tie.spec
-    invariant-loop
-    decreases-loop
+pub put_number_spec : {M : Type 1} → statement M
+put_number_spec = tie.close (tie.spec
+    invariant-loop-i
+    decreases-loop-i
     sub-i
     add-out
     cast-out

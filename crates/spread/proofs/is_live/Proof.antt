@@ -13,40 +13,38 @@ use Rattle.spread.proofs.is_live.Tie as tie
 of-case : {t : Bool} {h o : Shape} (loss : ℕ) → h ≡ o → t ≡ live_at o loss → t ≡ live_at h loss
 of-case loss e p = p ∙ ap (λ (h : Shape). live_at h loss) (sym e)
 
-enum-known-shape : tie.Need-enum-known-shape
+enum-known-shape : tie.Need-enum_known-shape
 enum-known-shape c = search rules
 
-is-live-requires : tie.Need-is-live-requires
-is-live-requires c κs = subst (ShapeBelow 64) c.before.shape.given.1 c.before.before.before.requires
+is-live-requires : tie.Need-is_live-requires
+is-live-requires c κs = subst (ShapeBelow 64) c.in-One.is c.requires
 
-enum-known-shape-2 : tie.Need-enum-known-shape-2
+enum-known-shape-2 : tie.Need-enum_known-shape-in-Lose-1
 enum-known-shape-2 c = search rules
 
-is-live-requires-2 : tie.Need-is-live-requires-2
-is-live-requires-2 c κs = subst (ShapeBelow 64) c.before.shape2.given.1 c.before.before.before.requires
+is-live-requires-2 : tie.Need-is_live-requires-in-Lose
+is-live-requires-2 c κs = subst (ShapeBelow 64) c.in-Lose.is c.requires
 
-enum-known-shape-3 : tie.Need-enum-known-shape-3
+enum-known-shape-3 : tie.Need-enum_known-shape-in-Two-1
 enum-known-shape-3 c = search rules
 
-both-live-requires : tie.Need-both-live-requires
-both-live-requires c κs = subst (ShapeBelow 64) c.before.shape3.given.1 c.before.before.before.requires
+both-live-requires : tie.Need-both_live-requires
+both-live-requires c κs = subst (ShapeBelow 64) c.in-Two.is c.requires
 
-returns : tie.Need-returns
+returns : tie.Need-returns-in-One
 unfolding live_at shape_qubits
-returns c = of-case c.before.before.before.before.args.loss c.before.before.shape.given.1 c.is_live.ensures
+returns c = of-case c.args.loss c.in-One.is c.is_live.ensures
 
-returns-2 : tie.Need-returns-2
+returns-2 : tie.Need-returns-in-Lose
 unfolding live_at shape_qubits
-returns-2 c = of-case c.before.before.before.before.args.loss c.before.before.shape2.given.1 c.is-live2.ensures
+returns-2 c = of-case c.args.loss c.in-Lose.is c.is_live-in-Lose.ensures
 
-returns-3 : tie.Need-returns-3
+returns-3 : tie.Need-returns-in-Two
 unfolding live_at shape_qubits
-returns-3 c = of-case c.before.before.before.before.args.loss c.before.before.shape3.given.1 c.both-live.ensures
+returns-3 c = of-case c.args.loss c.in-Two.is c.both_live.ensures
 
-pub is-live-spec : {M : Type 1} → statement M
-is-live-spec =
-    tie.close
-    (tie.spec
+pub is_live_spec : {M : Type 1} → statement M
+is_live_spec = tie.close (tie.spec
     enum-known-shape
     is-live-requires
     enum-known-shape-2

@@ -19,73 +19,71 @@ use Rattle.spread.proofs.same_at.Tie as tie
 key-lies : (s : Size) (len i total : ℕ) → len ≡ entry_len s → i * entry_len s + entry_len s ≤ total → i * len + 2 < total
 key-lies s len i total e h = omega (arith, ap (λ (k : ℕ). i * k) e, h)
 
-first_key : (c : tie.After-entry-len) → c.before.before.before.before.args.i * c.entry-len.result + 2 < length c.before.before.before.before.args.store.now
-first_key c = let s = c.before.before.before.before in key-lies s.args.size c.entry-len.result s.args.i _ c.entry-len.ensures s.requires.1
+first_key : (c : tie.After-entry_len-len) → c.args.i * c.entry_len-len.result + 2 < length c.args.store.now
+first_key c = let s = c in key-lies s.args.size c.entry_len-len.result s.args.i _ c.entry_len-len.ensures s.requires.1
 
-second_key : (c : tie.After-entry-len) → c.before.before.before.before.args.j * c.entry-len.result + 2 < length c.before.before.before.before.args.store.now
-second_key c = let s = c.before.before.before.before in key-lies s.args.size c.entry-len.result s.args.j _ c.entry-len.ensures s.requires.2
+second_key : (c : tie.After-entry_len-len) → c.args.j * c.entry_len-len.result + 2 < length c.args.store.now
+second_key c = let s = c in key-lies s.args.size c.entry_len-len.result s.args.j _ c.entry_len-len.ensures s.requires.2
 
-walked-rows-requires : tie.Need-walked-rows-requires
+walked-rows-requires : tie.Need-walked_rows-walked-requires
 walked-rows-requires c κs = search rules
 
-returns : tie.Need-returns
+returns : tie.Need-returns-then-walked-eq0
 unfolding all_below
-returns c = λ e. rw (sym c.before.walked-rows.ensures, c.if1.true)
+returns c = λ e. rw (sym c.walked_rows-walked.ensures, c.if-walked-eq0.true)
 
-entry-len-requires : tie.Need-entry-len-requires
+entry-len-requires : tie.Need-entry_len-len-requires
 entry-len-requires c κs = search rules
 
-mul-if2 : tie.Need-overflow-mul-if2
+mul-if2 : tie.Need-overflow_mul-i
 mul-if2 c = omega (arith, first_key c, c.before.before.before)
 
-add-if2 : tie.Need-overflow-add-if2
+add-if2 : tie.Need-overflow_add-i
 add-if2 c = omega (arith, first_key c, c.before.before.before)
 
-mul-if2-2 : tie.Need-overflow-mul-if2-2
+mul-if2-2 : tie.Need-offset_bounds-store-i
 mul-if2-2 c = omega (arith, first_key c, c.before.before.before)
 
-shared-slice-read-if2 : tie.Need-shared-slice-read-if2
+shared-slice-read-if2 : tie.Need-bounds-store-i
 shared-slice-read-if2 c = first_key c.before
 
-mul-if2-3 : tie.Need-overflow-mul-if2-3
+mul-if2-3 : tie.Need-overflow_mul-j
 mul-if2-3 c = omega (arith, second_key c.before, c.before.before.before.before)
 
-add-if2-2 : tie.Need-overflow-add-if2-2
+add-if2-2 : tie.Need-overflow_add-j
 add-if2-2 c = omega (arith, second_key c.before, c.before.before.before.before)
 
-mul-if2-4 : tie.Need-overflow-mul-if2-4
+mul-if2-4 : tie.Need-offset_bounds-store-j
 mul-if2-4 c = omega (arith, second_key c.before, c.before.before.before.before)
 
-shared-slice-read-if2-2 : tie.Need-shared-slice-read-if2-2
+shared-slice-read-if2-2 : tie.Need-bounds-store-j
 shared-slice-read-if2-2 c = second_key c.before.before
 
-returns-2 : tie.Need-returns-2
+returns-2 : tie.Need-returns-then-store-i
 returns-2 c = λ e. absurd (true≢false (sym e))
 
-rows-of-requires : tie.Need-rows-of-requires
+rows-of-requires : tie.Need-rows_of-a-requires
 rows-of-requires c κs = search rules
 
-rows-of-requires-2 : tie.Need-rows-of-requires-2
+rows-of-requires-2 : tie.Need-rows_of-b-requires
 rows-of-requires-2 c κs = search rules
 
-same-paulis-requires : tie.Need-same-paulis-requires
+same-paulis-requires : tie.Need-same_paulis-requires
 same-paulis-requires c κs =
-    let s = c.before.before.before.before.before.before.before.before.before in
-    let walked = c.before.before.before.before.before.before.before.walked-rows in
+    let s = c in
+    let walked = c.walked_rows-walked in
     let few : walked.result ≤ 2 * s.args.size.n = omega (arith, walked.ensures, few-walked s.args.shape s.args.size.n) in
-    (omega (arith, few, s.requires.0.qubits), omega (arith, few, c.before.rows_of_lem.ensures.1), omega (arith, few, c.rows-of2.ensures.1))
+    (omega (arith, few, s.requires.0.qubits), omega (arith, few, c.rows_of-a.ensures.1), omega (arith, few, c.rows_of-b.ensures.1))
 
-returns-3 : tie.Need-returns-3
+returns-3 : tie.Need-returns
 returns-3 c = λ e.
-    let a = c.before.before.before.before.before.before.before.before.before.before.args in
-    let walked = c.before.before.before.before.before.before.before.before.walked-rows in
-    sym (c.same-paulis.ensures ∙ ap₂ (λ (x y : List ℕ). all_below (same_pauli x y) walked.result) c.before.before.rows_of_lem.ensures.0 c.before.rows-of2.ensures.0
+    let a = c.args in
+    let walked = c.walked_rows-walked in
+    sym (c.same_paulis.ensures ∙ ap₂ (λ (x y : List ℕ). all_below (same_pauli x y) walked.result) c.rows_of-a.ensures.0 c.rows_of-b.ensures.0
     ∙ ap (all_below (same_pauli (rows_at a.size a.store.now a.i) (rows_at a.size a.store.now a.j))) walked.ensures) ∙ e
 
-pub same-at-spec : {M : Type 1} → statement M
-same-at-spec =
-    tie.close
-    (tie.spec
+pub same_at_spec : {M : Type 1} → statement M
+same_at_spec = tie.close (tie.spec
     walked-rows-requires
     returns
     entry-len-requires

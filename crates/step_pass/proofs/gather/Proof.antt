@@ -14,62 +14,60 @@ use Rattle.step_pass.proofs.Whole.{passed-whole}
 use Rattle.step_pass.proofs.gather.Statement.{statement}
 use Rattle.step_pass.proofs.gather.Tie as tie
 
-abbrev invariant-loop : tie.invariant-loop
-invariant-loop s bytes₀ stack₀ g₀ turns₀ bytes stack g turns =
+abbrev invariant-loop-turns : tie.invariant-loop-turns
+invariant-loop-turns s bytes₀ stack₀ g₀ turns₀ bytes stack g turns =
     (length bytes ≡ length bytes₀) × Passed LineGathers [] (steps_of g) g.pass.outcome × (g.pass.outcome ≡ Outcome.Going)
 
-abbrev decreases-loop : tie.decreases-loop
-decreases-loop s bytes₀ stack₀ g₀ turns₀ bytes stack g turns = turns
+abbrev decreases-loop-turns : tie.decreases-loop-turns
+decreases-loop-turns s bytes₀ stack₀ g₀ turns₀ bytes stack g turns = turns
 
-start-requires : tie.Need-start-requires invariant-loop decreases-loop
+start-requires : tie.Need-start-g-requires invariant-loop-turns decreases-loop-turns
 start-requires c κs = search rules
 
-loop-holds : tie.Need-loop-init invariant-loop decreases-loop
+loop-holds : tie.Need-loop-turns-init invariant-loop-turns decreases-loop-turns
 loop-holds c =
-    let s = c.start in
+    let s = c.start-g in
     (refl, subst (λ (x : List Call). Passed LineGathers x (steps_of s.result) s.result.pass.outcome) s.ensures.1 (passed_none LineGathers (steps_of s.result) s.result.pass.outcome s.ensures.0), s.ensures.0)
 
-gather-line-requires : tie.Need-gather-line-requires invariant-loop decreases-loop
+gather-line-requires : tie.Need-gather_line-g-requires invariant-loop-turns decreases-loop-turns
 gather-line-requires c κs = search rules
 
-is-going-requires : tie.Need-is-going-requires invariant-loop decreases-loop
+is-going-requires : tie.Need-is_going-requires invariant-loop-turns decreases-loop-turns
 is-going-requires c κs = search rules
 
-same_length : tie.Need-same-length invariant-loop decreases-loop
+same_length : tie.Need-shape_of-bytes-then-not-is_going invariant-loop-turns decreases-loop-turns
 same_length c = search rules
 
-returns : tie.Need-returns invariant-loop decreases-loop
+returns : tie.Need-returns-then-not-is_going invariant-loop-turns decreases-loop-turns
 returns c =
-    let k = c.before.before.before.before.gather-line in
-    let l = c.before.before.before.before.before.before.before.before in
-    let p = passed-next LineGathers l.loop.invariant.2 l.loop.invariant.1 k.ensures in
+    let k = c.gather_line-g in
+    let l = c in
+    let p = passed-next LineGathers l.loop-turns.invariant.2 l.loop-turns.invariant.1 k.ensures in
     (p, passed-whole p)
 
-sub-turns : tie.Need-overflow-sub-turns invariant-loop decreases-loop
+sub-turns : tie.Need-overflow_sub-turns invariant-loop-turns decreases-loop-turns
 sub-turns c = search rules
 
-loop-less : tie.Need-loop-smaller invariant-loop decreases-loop
+loop-less : tie.Need-loop-turns-smaller invariant-loop-turns decreases-loop-turns
 loop-less c = search rules
 
-loop-again : tie.Need-loop-preserved invariant-loop decreases-loop
+loop-again : tie.Need-loop-turns-preserved invariant-loop-turns decreases-loop-turns
 loop-again c =
-    let k = c.before.before.before.before.gather-line in
-    let l = c.before.before.before.before.before.before.before.before in
-    let on = going k.result.pass.outcome (sym c.before.is-going.ensures ∙ not-false _ c.if1.false) in
-    (search rules, passed-next LineGathers l.loop.invariant.2 l.loop.invariant.1 k.ensures, on)
+    let k = c.gather_line-g in
+    let l = c in
+    let on = going k.result.pass.outcome (sym c.is_going.ensures ∙ not-false _ c.if-not-is_going.false-raw) in
+    (search rules, passed-next LineGathers l.loop-turns.invariant.2 l.loop-turns.invariant.1 k.ensures, on)
 
-same-length-2 : tie.Need-same-length-2 invariant-loop decreases-loop
+same-length-2 : tie.Need-shape_of-bytes invariant-loop-turns decreases-loop-turns
 same-length-2 c = search rules
 
-returns-2 : tie.Need-returns-2 invariant-loop decreases-loop
-returns-2 c = let p = c.before.loop.invariant.1 in (p, passed-whole p)
+returns-2 : tie.Need-returns invariant-loop-turns decreases-loop-turns
+returns-2 c = let p = c.loop-turns.invariant.1 in (p, passed-whole p)
 
-pub gather-spec : {M : Type 1} → statement M
-gather-spec =
-    tie.close
-    (tie.spec
-    invariant-loop
-    decreases-loop
+pub gather_spec : {M : Type 1} → statement M
+gather_spec = tie.close (tie.spec
+    invariant-loop-turns
+    decreases-loop-turns
     start-requires
     loop-holds
     gather-line-requires

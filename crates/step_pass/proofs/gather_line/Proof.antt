@@ -13,40 +13,38 @@ use Rattle.step_pass.proofs.gather_line.Statement.{statement}
 use Rattle.step_pass.proofs.gather_line.Tie as tie
 
 -- the window that was read
-window : (c : tie.After-with-pass) → c.with-pass.result.pass.window ≡ c.before.before.before.before.next-line.result
-window c = ap (λ (p : Pass). p.window) c.with-pass.ensures.0 ∙ c.before.moved.ensures.0
+window : (c : tie.After-with_pass-next) → c.with_pass-next.result.pass.window ≡ c.next_line-window.result
+window c = ap (λ (p : Pass). p.window) c.with_pass-next.ensures.0 ∙ c.moved.ensures.0
 
-next-line-requires : tie.Need-next-line-requires
+next-line-requires : tie.Need-next_line-window-requires
 next-line-requires c κs = search rules
 
 moved-requires : tie.Need-moved-requires
 moved-requires c κs = search rules
 
-with-pass-requires : tie.Need-with-pass-requires
+with-pass-requires : tie.Need-with_pass-next-requires
 with-pass-requires c κs = search rules
 
-gather-found-requires : tie.Need-gather-found-requires
+gather-found-requires : tie.Need-gather_found-requires
 gather-found-requires c κs =
-    let p = c.before.before in
-    let n = p.before.before.before.before.next-line in (
-      subst (λ (w : Window). w.from ≤ w.to) (sym (window p)) n.ensures.0,
-      subst (λ (w : Window). w.to ≤ length n.new.1.0) (sym (window p)) n.ensures.1,
-      ap (λ (q : Pass). q.outcome) p.with-pass.ensures.0 ∙ p.before.moved.ensures.1,
+    let p = c in
+    let n = p.next_line-window in (
+      subst (λ (w : Window). w.from ≤ w.to) (sym (window p.before)) n.ensures.0,
+      subst (λ (w : Window). w.to ≤ length n.new.bytes) (sym (window p.before)) n.ensures.1,
+      ap (λ (q : Pass). q.outcome) p.with_pass-next.ensures.0 ∙ p.moved.ensures.1,
     )
 
-same_length : tie.Need-same-length
+same_length : tie.Need-shape_of-bytes
 same_length c = search rules
 
 returns : tie.Need-returns
 returns c =
-    let f = c.gather-found in
-    let p = c.before.before.before in
-    subst (λ (x : List Call). Next LineGathers x (steps_of f.result) f.result.pass.outcome) p.with-pass.ensures.1 (record { found = _; text = _; turn = f.ensures })
+    let f = c.gather_found in
+    let p = c in
+    subst (λ (x : List Call). Next LineGathers x (steps_of f.result) f.result.pass.outcome) p.with_pass-next.ensures.1 (record { found = _; text = _; turn = f.ensures })
 
-pub gather-line-spec : {M : Type 1} → statement M
-gather-line-spec =
-    tie.close
-    (tie.spec
+pub gather_line_spec : {M : Type 1} → statement M
+gather_line_spec = tie.close (tie.spec
     next-line-requires
     moved-requires
     with-pass-requires

@@ -13,4 +13,6 @@ unfolding steps_of
 returns c = (c.start.ensures, refl)
 
 pub start_spec : {M : Type 1} → statement M
-start_spec = tie.close (tie.spec start-requires returns)
+start_spec = tie.close (tie.spec
+    start-requires
+    returns)

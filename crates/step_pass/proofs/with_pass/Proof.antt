@@ -8,5 +8,6 @@ returns : tie.Need-returns
 unfolding steps_of
 returns c = (refl, refl)
 
-pub with-pass-spec : {M : Type 1} → statement M
-with-pass-spec = tie.close (tie.spec returns)
+pub with_pass_spec : {M : Type 1} → statement M
+with_pass_spec = tie.close (tie.spec
+    returns)

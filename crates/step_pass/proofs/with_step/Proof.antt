@@ -14,37 +14,42 @@ use Rattle.step_pass.proofs.with_step.Tie as tie
 
 -- there is room for 64 steps
 long : (c : tie.Start) → length c.args.g.steps ≡ max_steps
-long c = sym (length-map c.args.g.steps _) ∙ c.well-formed.0.1.1.1.1.0.1.0.1
+long c = sym (length-map c.args.g.steps _) ∙ c.well_formed.0.1.1.1.1.0.1.0.1
 
-mul-steps : tie.Need-overflow-mul-steps
+mul-steps : tie.Need-offset_bounds-steps-count
 mul-steps c = search rules
 
-array-set-from-steps : tie.Need-array-set-from-steps
+array-set-from-steps : tie.Need-bounds-steps-count
 array-set-from-steps c = search rules
 
-add-t8 : tie.Need-overflow-add-t8
+add-t8 : tie.Need-overflow_add-result
 add-t8 c = search rules
 
-returns : tie.Need-returns
+returns : tie.Need-returns-then-count-lt64
 unfolding steps_of
 returns c =
-    let a = c.before.before.before in
+    let a = c in
     let g = a.args.g in
-    subst (Taken _ _ _) (sym a.requires) (step-taken g.steps g.count (long a) a.args.step (omega (arith, c.before.before.if1.true)))
+    subst (Taken _ _ _) (sym a.requires) (step-taken g.steps g.count (long a.before.before.before) a.args.step (omega (arith, c.if-count-lt64.true)))
 
 ended-requires : tie.Need-ended-requires
 ended-requires c κs = search rules
 
-returns-2 : tie.Need-returns-2
+returns-2 : tie.Need-returns
 unfolding steps_of
 returns-2 c =
-    let a = c.before.before in
+    let a = c in
     let g = a.args.g in
     let e = c.ended.ensures in
     subst (Taken (step_call a.args.step ∷ []) (steps_of g) (steps_of c.ended.result)) (sym e.0)
     (subst (λ (after : List Call). Taken (step_call a.args.step ∷ []) (steps_of g) after Outcome.TooManySteps) (sym e.1)
-    (too_many (all_there g.steps g.count (long a) (omega (arith, c.before.if1.false)))))
+    (too_many (all_there g.steps g.count (long a.before.before) (omega (arith, c.if-count-lt64.false)))))
 
-pub with-step-spec : {M : Type 1} → statement M
-with-step-spec =
-    tie.close (tie.spec mul-steps array-set-from-steps add-t8 returns ended-requires returns-2)
+pub with_step_spec : {M : Type 1} → statement M
+with_step_spec = tie.close (tie.spec
+    mul-steps
+    array-set-from-steps
+    add-t8
+    returns
+    ended-requires
+    returns-2)

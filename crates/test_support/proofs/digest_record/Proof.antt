@@ -3,57 +3,55 @@ use Rattle.std.proofs.Common.{◌≤◌, length, arith, rules}
 use Rattle.test_support.proofs.digest_record.Statement.{statement}
 use Rattle.test_support.proofs.digest_record.Tie as tie
 
-abbrev invariant-loop : tie.invariant-loop
-invariant-loop words end₀ end = end ≤ length words
+abbrev invariant-loop-end : tie.invariant-loop-end
+invariant-loop-end words end₀ end = end ≤ length words
 
-abbrev decreases-loop : tie.decreases-loop
-decreases-loop words end₀ end = end
+abbrev decreases-loop-end : tie.decreases-loop-end
+decreases-loop-end words end₀ end = end
 
-loop-holds : tie.Need-loop-init invariant-loop decreases-loop
+loop-holds : tie.Need-loop-end-init invariant-loop-end decreases-loop-end
 loop-holds c = search rules
 
-sub-if1 : tie.Need-overflow-sub-if1 invariant-loop decreases-loop
+sub-if1 : tie.Need-overflow_sub-end invariant-loop-end decreases-loop-end
 sub-if1 c = search rules
 
-mul-if1 : tie.Need-overflow-mul-if1 invariant-loop decreases-loop
+mul-if1 : tie.Need-offset_bounds-record-end invariant-loop-end decreases-loop-end
 mul-if1 c = search rules
 
-shared-slice-read-if1 : tie.Need-shared-slice-read-if1 invariant-loop decreases-loop
+shared-slice-read-if1 : tie.Need-bounds-record-end invariant-loop-end decreases-loop-end
 shared-slice-read-if1 c = search rules
 
-sub-digest : tie.Need-overflow-sub-digest invariant-loop decreases-loop
+sub-digest : tie.Need-slice_bounds-digest-count invariant-loop-end decreases-loop-end
 sub-digest c = search rules
 
-part-digest-start : tie.Need-slice-bounds-digest-start invariant-loop decreases-loop
+part-digest-start : tie.Need-slice_bounds-digest-start invariant-loop-end decreases-loop-end
 part-digest-start c = search rules
 
-part-digest-end : tie.Need-slice-bounds-digest-end invariant-loop decreases-loop
+part-digest-end : tie.Need-slice_bounds-digest-end invariant-loop-end decreases-loop-end
 part-digest-end c = search rules
 
-digest-requires : tie.Need-digest-requires invariant-loop decreases-loop
+digest-requires : tie.Need-digest-requires invariant-loop-end decreases-loop-end
 digest-requires c κs = search rules
 
-returns : tie.Need-returns invariant-loop decreases-loop
+returns : tie.Need-returns-then-record-end-ne7 invariant-loop-end decreases-loop-end
 returns c = search rules
 
-sub-end : tie.Need-overflow-sub-end invariant-loop decreases-loop
+sub-end : tie.Need-overflow_sub-end-in-loop-end invariant-loop-end decreases-loop-end
 sub-end c = search rules
 
-loop-less : tie.Need-loop-smaller invariant-loop decreases-loop
+loop-less : tie.Need-loop-end-smaller invariant-loop-end decreases-loop-end
 loop-less c = search rules
 
-loop-again : tie.Need-loop-preserved invariant-loop decreases-loop
+loop-again : tie.Need-loop-end-preserved invariant-loop-end decreases-loop-end
 loop-again c = search rules
 
-returns-2 : tie.Need-returns-2 invariant-loop decreases-loop
+returns-2 : tie.Need-returns invariant-loop-end decreases-loop-end
 returns-2 c = search rules
 
-pub digest-record-spec : {M : Type 1} → statement M
-digest-record-spec =
-    tie.close
-    (tie.spec
-    invariant-loop
-    decreases-loop
+pub digest_record_spec : {M : Type 1} → statement M
+digest_record_spec = tie.close (tie.spec
+    invariant-loop-end
+    decreases-loop-end
     loop-holds
     sub-if1
     mul-if1

@@ -3,60 +3,54 @@ use Rattle.std.proofs.Common.{◌-◌, ◌≤◌, rules}
 use Rattle.test_support.proofs.lines.Statement.{statement}
 use Rattle.test_support.proofs.lines.Tie as tie
 
-abbrev invariant-loop : tie.invariant-loop
-invariant-loop words count width i₀ left₀ t6 i left = i ≤ count
+abbrev invariant-loop-i : tie.invariant-loop-i
+invariant-loop-i words count width i₀ left₀ i left = i ≤ count
 
-abbrev decreases-loop : tie.decreases-loop
-decreases-loop words count width i₀ left₀ t6 i left = count - i
+abbrev decreases-loop-i : tie.decreases-loop-i
+decreases-loop-i words count width i₀ left₀ i left = count - i
 
-loop-holds : tie.Need-loop-init invariant-loop decreases-loop
+loop-holds : tie.Need-loop-i-init invariant-loop-i decreases-loop-i
 loop-holds c = search rules
 
-returns : tie.Need-returns invariant-loop decreases-loop
+returns : tie.Need-returns-then-words-i invariant-loop-i decreases-loop-i
 returns c = search rules
 
-mul-number : tie.Need-overflow-mul-number invariant-loop decreases-loop
+mul-number : tie.Need-offset_bounds-words-i invariant-loop-i decreases-loop-i
 mul-number c = search rules
 
-shared-slice-read-number : tie.Need-shared-slice-read-number invariant-loop decreases-loop
+shared-slice-read-number : tie.Need-bounds-words-i invariant-loop-i decreases-loop-i
 shared-slice-read-number c = search rules
 
-number-requires : tie.Need-number-requires invariant-loop decreases-loop
+number-requires : tie.Need-number-requires invariant-loop-i decreases-loop-i
 number-requires c κs = search rules
 
-slice-aggregate-text : tie.Need-slice-aggregate-text invariant-loop decreases-loop
-slice-aggregate-text c = search rules
-
-text-requires : tie.Need-text-requires invariant-loop decreases-loop
+text-requires : tie.Need-text-requires invariant-loop-i decreases-loop-i
 text-requires c κs = search rules
 
-sub-left : tie.Need-overflow-sub-left invariant-loop decreases-loop
+sub-left : tie.Need-overflow_sub-left invariant-loop-i decreases-loop-i
 sub-left c = search rules
 
-add-i : tie.Need-overflow-add-i invariant-loop decreases-loop
+add-i : tie.Need-overflow_add-i invariant-loop-i decreases-loop-i
 add-i c = search rules
 
-loop-less : tie.Need-loop-smaller invariant-loop decreases-loop
+loop-less : tie.Need-loop-i-smaller invariant-loop-i decreases-loop-i
 loop-less c = search rules
 
-loop-again : tie.Need-loop-preserved invariant-loop decreases-loop
+loop-again : tie.Need-loop-i-preserved invariant-loop-i decreases-loop-i
 loop-again c = search rules
 
-returns-2 : tie.Need-returns-2 invariant-loop decreases-loop
+returns-2 : tie.Need-returns invariant-loop-i decreases-loop-i
 returns-2 c = search rules
 
-pub lines-spec : {M : Type 1} → statement M
-lines-spec =
-    tie.close
-    (tie.spec
-    invariant-loop
-    decreases-loop
+pub lines_spec : {M : Type 1} → statement M
+lines_spec = tie.close (tie.spec
+    invariant-loop-i
+    decreases-loop-i
     loop-holds
     returns
     mul-number
     shared-slice-read-number
     number-requires
-    slice-aggregate-text
     text-requires
     sub-left
     add-i

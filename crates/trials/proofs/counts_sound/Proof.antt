@@ -4,17 +4,21 @@ use borrow.Author.Rules.{rules}
 use Rattle.trials.proofs.counts_sound.Statement.{statement}
 use Rattle.trials.proofs.counts_sound.Tie as tie
 
-one-to-requires : tie.Need-one-to-requires
+one-to-requires : tie.Need-one_to-requires
 one-to-requires c κs = search rules
 
-one-to-requires-2 : tie.Need-one-to-requires-2
+one-to-requires-2 : tie.Need-one_to-requires-then-one_to
 one-to-requires-2 c κs = search rules
 
-returns : tie.Need-returns
-returns c = rw (← c.before.before.one-to.ensures, c.before.if1.true, c.one-to2.ensures)
+returns : tie.Need-returns-then-one_to
+returns c = rw (← c.one_to.ensures, c.if-one_to.true, c.one_to-then-one_to.ensures)
 
-returns-2 : tie.Need-returns-2
-returns-2 c = rw (← c.before.one-to.ensures, c.if1.false)
+returns-2 : tie.Need-returns
+returns-2 c = rw (← c.one_to.ensures, c.if-one_to.false)
 
-pub counts-sound-spec : {M : Type 1} → statement M
-counts-sound-spec = tie.close (tie.spec one-to-requires one-to-requires-2 returns returns-2)
+pub counts_sound_spec : {M : Type 1} → statement M
+counts_sound_spec = tie.close (tie.spec
+    one-to-requires
+    one-to-requires-2
+    returns
+    returns-2)

@@ -10,37 +10,37 @@ use Rattle.trials.proofs.Places.{place-filled, all_placed}
 use Rattle.trials.proofs.fill_places.Statement.{statement}
 use Rattle.trials.proofs.fill_places.Tie as tie
 
-abbrev invariant-loop : tie.invariant-loop
-invariant-loop places₀ i count number entries place₀ places place =
+abbrev invariant-loop-place : tie.invariant-loop-place
+invariant-loop-place places₀ i count number entries place₀ places place =
     (place ≤ count)
     × (length places ≡ length places₀)
     × (take (2 * place) places ++ repeated (count - place) (number ∷ entries ∷ []) ≡ take (2 * i) places₀ ++ repeated (count - i) (number ∷ entries ∷ []))
 
-abbrev decreases-loop : tie.decreases-loop
-decreases-loop places₀ i count number entries place₀ places place = count - place
+abbrev decreases-loop-place : tie.decreases-loop-place
+decreases-loop-place places₀ i count number entries place₀ places place = count - place
 
-loop-holds : tie.Need-loop-init invariant-loop decreases-loop
-loop-holds c = (c.before.requires.0, refl, refl)
+loop-holds : tie.Need-loop-place-init invariant-loop-place decreases-loop-place
+loop-holds c = (c.requires.0, refl, refl)
 
-put-place-requires : tie.Need-put-place-requires invariant-loop decreases-loop
+put-place-requires : tie.Need-put_place-requires invariant-loop-place decreases-loop-place
 put-place-requires c κs =
-    let l = c.before.before.loop in
-    let s = c.before.before.before.before in
-    (omega (arith, c.before.loop-test.true, s.requires.1), omega (arith, c.before.loop-test.true, s.requires.2, l.invariant.1))
+    let l = c.loop-place in
+    let s = c in
+    (omega (arith, c.loop-place-test.true, s.requires.1), omega (arith, c.loop-place-test.true, s.requires.2, l.invariant.1))
 
-add-place : tie.Need-overflow-add-place invariant-loop decreases-loop
+add-place : tie.Need-overflow_add-place invariant-loop-place decreases-loop-place
 add-place c = search rules
 
-loop-less : tie.Need-loop-smaller invariant-loop decreases-loop
+loop-less : tie.Need-loop-place-smaller invariant-loop-place decreases-loop-place
 loop-less c = search rules
 
-loop-again : tie.Need-loop-preserved invariant-loop decreases-loop
+loop-again : tie.Need-loop-place-preserved invariant-loop-place decreases-loop-place
 loop-again c =
-    let l = c.before.before.before.before.before.loop in
-    let h = c.before.before.before.before.loop-test.true in
-    let s = c.before.before.before.before.before.before.before in
+    let l = c.loop-place in
+    let h = c.loop-place-test.true in
+    let s = c in
     let a = s.args in
-    let e = c.before.before.put-place.ensures in (
+    let e = c.put_place.ensures in (
       omega (arith, h),
       ap length e ∙ length-set (set l.places (2 * l.place) a.number) (2 * l.place + 1) a.entries ∙ length-set l.places (2 * l.place) a.number ∙ l.invariant.1,
       ap (λ (p : List ℕ). take (2 * (l.place + 1)) p ++ repeated (a.count - (l.place + 1)) (a.number ∷ a.entries ∷ [])) e
@@ -48,22 +48,20 @@ loop-again c =
           ∙ l.invariant.2,
     )
 
-same_length : tie.Need-same-length invariant-loop decreases-loop
-same_length c = c.before.loop.invariant.1
+same_length : tie.Need-shape_of-places invariant-loop-place decreases-loop-place
+same_length c = c.loop-place.invariant.1
 
-returns : tie.Need-returns invariant-loop decreases-loop
+returns : tie.Need-returns invariant-loop-place decreases-loop-place
 returns c =
-    let l = c.before.loop in
-    let s = c.before.before.before in
+    let l = c.loop-place in
+    let s = c in
     let a = s.args in
-    all_placed l.places l.place a.count a.number a.entries (l.invariant.1 ∙ s.requires.2) c.loop-test.false ∙ l.invariant.2
+    all_placed l.places l.place a.count a.number a.entries (l.invariant.1 ∙ s.requires.2) c.loop-place-test.false ∙ l.invariant.2
 
-pub fill-places-spec : {M : Type 1} → statement M
-fill-places-spec =
-    tie.close
-    (tie.spec
-    invariant-loop
-    decreases-loop
+pub fill_places_spec : {M : Type 1} → statement M
+fill_places_spec = tie.close (tie.spec
+    invariant-loop-place
+    decreases-loop-place
     loop-holds
     put-place-requires
     add-place

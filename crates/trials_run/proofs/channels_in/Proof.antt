@@ -3,45 +3,43 @@ use Rattle.std.proofs.Common.{◌≡◌, ◌-◌, ◌≤◌, length, rules}
 use Rattle.trials_run.proofs.channels_in.Statement.{statement}
 use Rattle.trials_run.proofs.channels_in.Tie as tie
 
-abbrev invariant-loop : tie.invariant-loop
-invariant-loop calls channels₀ i₀ channels i = (i ≤ 64) × (length channels ≡ 64)
+abbrev invariant-loop-i : tie.invariant-loop-i
+invariant-loop-i calls channels₀ i₀ channels i = (i ≤ 64) × (length channels ≡ 64)
 
-abbrev decreases-loop : tie.decreases-loop
-decreases-loop calls channels₀ i₀ channels i = 64 - i
+abbrev decreases-loop-i : tie.decreases-loop-i
+decreases-loop-i calls channels₀ i₀ channels i = 64 - i
 
-loop-holds : tie.Need-loop-init invariant-loop decreases-loop
+loop-holds : tie.Need-loop-i-init invariant-loop-i decreases-loop-i
 loop-holds c = search rules
 
-call-at-requires : tie.Need-call-at-requires invariant-loop decreases-loop
+call-at-requires : tie.Need-call_at-requires invariant-loop-i decreases-loop-i
 call-at-requires c κs = search rules
 
-channel-in-requires : tie.Need-channel-in-requires invariant-loop decreases-loop
+channel-in-requires : tie.Need-channel_in-channel-requires invariant-loop-i decreases-loop-i
 channel-in-requires c κs = search rules
 
-mul-channels : tie.Need-overflow-mul-channels invariant-loop decreases-loop
+mul-channels : tie.Need-offset_bounds-channels-i invariant-loop-i decreases-loop-i
 mul-channels c = search rules
 
-array-set-from-channels : tie.Need-array-set-from-channels invariant-loop decreases-loop
+array-set-from-channels : tie.Need-bounds-channels-i invariant-loop-i decreases-loop-i
 array-set-from-channels c = search rules
 
-add-i : tie.Need-overflow-add-i invariant-loop decreases-loop
+add-i : tie.Need-overflow_add-i invariant-loop-i decreases-loop-i
 add-i c = search rules
 
-loop-less : tie.Need-loop-smaller invariant-loop decreases-loop
+loop-less : tie.Need-loop-i-smaller invariant-loop-i decreases-loop-i
 loop-less c = search rules
 
-loop-again : tie.Need-loop-preserved invariant-loop decreases-loop
+loop-again : tie.Need-loop-i-preserved invariant-loop-i decreases-loop-i
 loop-again c = search rules
 
-returns : tie.Need-returns invariant-loop decreases-loop
+returns : tie.Need-returns invariant-loop-i decreases-loop-i
 returns c = search rules
 
-pub channels-in-spec : {M : Type 1} → statement M
-channels-in-spec =
-    tie.close
-    (tie.spec
-    invariant-loop
-    decreases-loop
+pub channels_in_spec : {M : Type 1} → statement M
+channels_in_spec = tie.close (tie.spec
+    invariant-loop-i
+    decreases-loop-i
     loop-holds
     call-at-requires
     channel-in-requires

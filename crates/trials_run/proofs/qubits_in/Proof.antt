@@ -3,45 +3,43 @@ use Rattle.std.proofs.Common.{◌≡◌, ◌-◌, ◌≤◌, length, rules}
 use Rattle.trials_run.proofs.qubits_in.Statement.{statement}
 use Rattle.trials_run.proofs.qubits_in.Tie as tie
 
-abbrev invariant-loop : tie.invariant-loop
-invariant-loop calls qubits₀ i₀ qubits i = (i ≤ 64) × (length qubits ≡ 64)
+abbrev invariant-loop-i : tie.invariant-loop-i
+invariant-loop-i calls qubits₀ i₀ qubits i = (i ≤ 64) × (length qubits ≡ 64)
 
-abbrev decreases-loop : tie.decreases-loop
-decreases-loop calls qubits₀ i₀ qubits i = 64 - i
+abbrev decreases-loop-i : tie.decreases-loop-i
+decreases-loop-i calls qubits₀ i₀ qubits i = 64 - i
 
-loop-holds : tie.Need-loop-init invariant-loop decreases-loop
+loop-holds : tie.Need-loop-i-init invariant-loop-i decreases-loop-i
 loop-holds c = search rules
 
-call-at-requires : tie.Need-call-at-requires invariant-loop decreases-loop
+call-at-requires : tie.Need-call_at-requires invariant-loop-i decreases-loop-i
 call-at-requires c κs = search rules
 
-word-at-requires : tie.Need-word-at-requires invariant-loop decreases-loop
+word-at-requires : tie.Need-word_at-requires invariant-loop-i decreases-loop-i
 word-at-requires c κs = search rules
 
-mul-qubits : tie.Need-overflow-mul-qubits invariant-loop decreases-loop
+mul-qubits : tie.Need-offset_bounds-qubits-i invariant-loop-i decreases-loop-i
 mul-qubits c = search rules
 
-array-write-qubits : tie.Need-array-write-qubits invariant-loop decreases-loop
+array-write-qubits : tie.Need-bounds-qubits-i invariant-loop-i decreases-loop-i
 array-write-qubits c = search rules
 
-add-i : tie.Need-overflow-add-i invariant-loop decreases-loop
+add-i : tie.Need-overflow_add-i invariant-loop-i decreases-loop-i
 add-i c = search rules
 
-loop-less : tie.Need-loop-smaller invariant-loop decreases-loop
+loop-less : tie.Need-loop-i-smaller invariant-loop-i decreases-loop-i
 loop-less c = search rules
 
-loop-again : tie.Need-loop-preserved invariant-loop decreases-loop
+loop-again : tie.Need-loop-i-preserved invariant-loop-i decreases-loop-i
 loop-again c = search rules
 
-returns : tie.Need-returns invariant-loop decreases-loop
+returns : tie.Need-returns invariant-loop-i decreases-loop-i
 returns c = search rules
 
-pub qubits-in-spec : {M : Type 1} → statement M
-qubits-in-spec =
-    tie.close
-    (tie.spec
-    invariant-loop
-    decreases-loop
+pub qubits_in_spec : {M : Type 1} → statement M
+qubits_in_spec = tie.close (tie.spec
+    invariant-loop-i
+    decreases-loop-i
     loop-holds
     call-at-requires
     word-at-requires

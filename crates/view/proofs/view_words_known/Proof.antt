@@ -9,19 +9,22 @@ use Rattle.view.proofs.view_words_known.Tie as tie
 abbrev given : tie.Start → Lent
 given c = held c.args.h c.args.store.now
 
-view-answer-known-requires : tie.Need-view-answer-known-requires
-view-answer-known-requires c κs = c.before.requires
+view-answer-known-requires : tie.Need-view_answer_known-answer-requires
+view-answer-known-requires c κs = c.requires
 
 stretch-requires : tie.Need-stretch-requires
 stretch-requires c κs =
-    let b = c.before.before in
-    omega (arith, part-within (given b) b.args.place c.view-answer-known.result c.view-answer-known.ensures)
+    let b = c in
+    omega (arith, part-within (given b.before.before) b.args.place c.view_answer_known-answer.result c.view_answer_known-answer.ensures)
 
 returns : tie.Need-returns
 returns c =
-    let a = c.before.view-answer-known in
-    let b = c.before.before.before in
-    c.stretch.ensures ∙ part-shown (given b) b.args.place a.result a.ensures
+    let a = c.view_answer_known-answer in
+    let b = c in
+    c.stretch.ensures ∙ part-shown (given b.before.before.before) b.args.place a.result a.ensures
 
-pub view-words-known-spec : {M : Type 1} → statement M
-view-words-known-spec = tie.close (tie.spec view-answer-known-requires stretch-requires returns)
+pub view_words_known_spec : {M : Type 1} → statement M
+view_words_known_spec = tie.close (tie.spec
+    view-answer-known-requires
+    stretch-requires
+    returns)

@@ -12,60 +12,58 @@ use Rattle.weights.proofs.Weights.{added-step, added-all}
 use Rattle.weights.proofs.weights_total.Statement.{statement}
 use Rattle.weights.proofs.weights_total.Tie as tie
 
-abbrev invariant-loop : tie.invariant-loop
-invariant-loop store count len sum₀ i₀ sum i =
+abbrev invariant-loop-i : tie.invariant-loop-i
+invariant-loop-i store count len sum₀ i₀ sum i =
     (i ≤ count) × ((s : Size) → len ≡ entry_len s → added_to keyed_weighed sum (drop i (listed s count store)) ≡ total keyed_weighed (listed s count store))
 
-abbrev decreases-loop : tie.decreases-loop
-decreases-loop store count len sum₀ i₀ sum i = count - i
+abbrev decreases-loop-i : tie.decreases-loop-i
+decreases-loop-i store count len sum₀ i₀ sum i = count - i
 
 -- the word that is read is in the store
-read : (c : tie.In-loop invariant-loop decreases-loop) → c.before.loop.i * c.before.before.entry-len.result < length c.before.before.before.before.args.store.now
-read c = first-within c.before.before.before.before.requires c.before.before.entry-len.ensures c.loop-test.true
+read : (c : tie.In-loop-i invariant-loop-i decreases-loop-i) → c.loop-i.i * c.entry_len-len.result < length c.args.store.now
+read c = first-within c.requires c.entry_len-len.ensures c.loop-i-test.true
 
-entry-len-requires : tie.Need-entry-len-requires invariant-loop decreases-loop
-entry-len-requires c κs = in-limits c.before.requires
+entry-len-requires : tie.Need-entry_len-len-requires invariant-loop-i decreases-loop-i
+entry-len-requires c κs = in-limits c.requires
 
-loop-holds : tie.Need-loop-init invariant-loop decreases-loop
+loop-holds : tie.Need-loop-i-init invariant-loop-i decreases-loop-i
 unfolding total
 loop-holds c = (omega arith, λ s e. refl)
 
-mul-float-of : tie.Need-overflow-mul-float-of invariant-loop decreases-loop
+mul-float-of : tie.Need-overflow_mul-i invariant-loop-i decreases-loop-i
 mul-float-of c = omega (arith, read c)
 
-mul-float-of-2 : tie.Need-overflow-mul-float-of-2 invariant-loop decreases-loop
+mul-float-of-2 : tie.Need-offset_bounds-store-i invariant-loop-i decreases-loop-i
 mul-float-of-2 c = omega (arith, read c)
 
-shared-slice-read-float-of : tie.Need-shared-slice-read-float-of invariant-loop decreases-loop
+shared-slice-read-float-of : tie.Need-bounds-store-i invariant-loop-i decreases-loop-i
 shared-slice-read-float-of c = read c.before
 
-float-of-requires : tie.Need-float-of-requires invariant-loop decreases-loop
+float-of-requires : tie.Need-float_of-sum-requires invariant-loop-i decreases-loop-i
 float-of-requires c κs = tt
 
-add-i : tie.Need-overflow-add-i invariant-loop decreases-loop
+add-i : tie.Need-overflow_add-i invariant-loop-i decreases-loop-i
 add-i c = omega arith
 
-loop-less : tie.Need-loop-smaller invariant-loop decreases-loop
+loop-less : tie.Need-loop-i-smaller invariant-loop-i decreases-loop-i
 loop-less c = omega arith
 
-loop-again : tie.Need-loop-preserved invariant-loop decreases-loop
+loop-again : tie.Need-loop-i-preserved invariant-loop-i decreases-loop-i
 loop-again c =
-    let l = c.before.before.before in
-    let a = l.before.before.before.args in
-    (omega arith, λ s e. rw (c.float_of.ensures, e) (added-step s a.count l.loop.i a.store.now c.before.before.loop-test.true l.loop.sum) ∙ l.loop.invariant.1 s e)
+    let l = c in
+    let a = l.args in
+    (omega arith, λ s e. rw (c.float_of-sum.ensures, e) (added-step s a.count l.loop-i.i a.store.now c.loop-i-test.true l.loop-i.sum) ∙ l.loop-i.invariant.1 s e)
 
-returns : tie.Need-returns invariant-loop decreases-loop
+returns : tie.Need-returns invariant-loop-i decreases-loop-i
 returns c =
-    let l = c.before in
-    let a = l.before.before.before.args in
-    sym (added-all a.size a.count l.loop.i a.store.now l.loop.sum c.loop-test.false) ∙ l.loop.invariant.1 a.size l.before.entry-len.ensures
+    let l = c in
+    let a = l.args in
+    sym (added-all a.size a.count l.loop-i.i a.store.now l.loop-i.sum c.loop-i-test.false) ∙ l.loop-i.invariant.1 a.size l.entry_len-len.ensures
 
-pub weights-total-spec : {M : Type 1} → statement M
-weights-total-spec =
-    tie.close
-    (tie.spec
-    invariant-loop
-    decreases-loop
+pub weights_total_spec : {M : Type 1} → statement M
+weights_total_spec = tie.close (tie.spec
+    invariant-loop-i
+    decreases-loop-i
     entry-len-requires
     loop-holds
     mul-float-of

@@ -8,5 +8,6 @@ returns : tie.Need-returns
 unfolding lost_too
 returns c = refl
 
-pub lost-too-spec : {M : Type 1} → statement M
-lost-too-spec = tie.close (tie.spec returns)
+pub lost_too_spec : {M : Type 1} → statement M
+lost_too_spec = tie.close (tie.spec
+    returns)

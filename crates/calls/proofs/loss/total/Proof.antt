@@ -10,21 +10,25 @@ use Rattle.calls.proofs.loss.total.Tie as tie
 
 -- the sum as it is given
 abbrev given : tie.After-front → Lent
-given c = let a = c.before.before.before.args in held a.h a.store.now
+given c = let a = c.args in held a.h a.store.now
 
 front-requires : tie.Need-front-requires
 front-requires c κs = search rules
 
-returns : tie.Need-returns
+returns : tie.Need-returns-then-front-ne0
 unfolding weight_of
-returns c = rw (← c.before.front.ensures, ne_eqb _ 0 c.if1.true)
+returns c = rw (← c.front.ensures, ne_eqb _ 0 c.if-front-ne0.true)
 
-weights-total-requires : tie.Need-weights-total-requires
-weights-total-requires c κs = (front-sound (given c.before) 0 (sym c.before.front.ensures ∙ c.if1.false)).packed
+weights-total-requires : tie.Need-weights_total-requires
+weights-total-requires c κs = (front-sound (given c.before) 0 (sym c.front.ensures ∙ c.if-front-ne0.false)).packed
 
-returns-2 : tie.Need-returns-2
+returns-2 : tie.Need-returns
 unfolding weight_of
-returns-2 c = let e = c.before in rw (← e.before.front.ensures, eq-eqb _ 0 e.if1.false) c.weights-total.ensures
+returns-2 c = let e = c in rw (← e.front.ensures, eq-eqb _ 0 e.if-front-ne0.false) c.weights_total.ensures
 
-pub total-spec : {M : Type 1} → statement M
-total-spec = tie.close (tie.spec front-requires returns weights-total-requires returns-2)
+pub total_spec : {M : Type 1} → statement M
+total_spec = tie.close (tie.spec
+    front-requires
+    returns
+    weights-total-requires
+    returns-2)

@@ -18,55 +18,53 @@ call c = call_on c.args.o
 abbrev given : tie.Start → Lent
 given c = held c.args.h c.args.store.now
 
-abbrev from : tie.After-answer-on-copy → tie.Start
+abbrev from : tie.After-answer_on_copy-a → tie.Start
 from c = c.before.before.before.before.before
 
-answered : (c : tie.After-answer-on-copy) →
+answered : (c : tie.After-answer_on_copy-a) →
     let x = given (from c) in
-    c.answer-on-copy.result ≡ answer_on (call (from c)) (with_cutoff (float 0x7fef_ffff_ffff_ffff) x.header) x.words
+    c.answer_on_copy-a.result ≡ answer_on (call (from c)) (with_cutoff (float 0x7fef_ffff_ffff_ffff) x.header) x.words
 answered c =
-    let b = from c in answer-as (call b) c.answer-on-copy.ensures c.before.before.with-cutoff.ensures (laid_same (given b).words)
+    let b = from c in answer-as (call b) c.answer_on_copy-a.ensures c.with_cutoff-high.ensures (laid_same (given b).words)
 
-float-from-bits-largest : tie.Need-float-from-bits-largest
+float-from-bits-largest : tie.Need-float_from_bits-largest
 unfolding nan_bits
 float-from-bits-largest c = tt
 
-with-cutoff-requires : tie.Need-with-cutoff-requires
+with-cutoff-requires : tie.Need-with_cutoff-high-requires
 with-cutoff-requires c κs = search rules
 
-answer-on-copy-requires : tie.Need-answer-on-copy-requires
+answer-on-copy-requires : tie.Need-answer_on_copy-a-requires
 answer-on-copy-requires c κs = search rules
 
 unknown-requires : tie.Need-unknown-requires
 unknown-requires c κs = search rules
 
-same_length : tie.Need-same-length
+same_length : tie.Need-shape_of-scratch-then-a-ne0
 same_length c = search rules
 
-returns : tie.Need-returns
+returns : tie.Need-returns-then-a-ne0
 unfolding bounded
 returns c =
-    let r = c.before.before.before.before.before.before in
-    let n = (given (from r)).header.count in
-    c.unknown.ensures ∙ bound-refused n r.answer-on-copy.result c.before.if1.true ∙ ap (bound_of n) (answered r)
+    let r = c in
+    let n = (given (from r.before.before.before.before.before.before)).header.count in
+    c.unknown.ensures ∙ bound-refused n r.answer_on_copy-a.result c.if-a-ne0.true ∙ ap (bound_of n) (answered r.before.before.before.before.before.before)
 
-capped-sum-requires : tie.Need-capped-sum-requires
+capped-sum-requires : tie.Need-capped_sum-requires
 capped-sum-requires c κs = search rules
 
-same-length-2 : tie.Need-same-length-2
+same-length-2 : tie.Need-shape_of-scratch
 same-length-2 c = search rules
 
-returns-2 : tie.Need-returns-2
+returns-2 : tie.Need-returns
 unfolding bounded
 returns-2 c =
-    let r = c.before.before.before.before.before.before in
-    let n = (given (from r)).header.count in
-    bound-is n r.answer-on-copy.result c.before.if1.false c.capped-sum.ensures ∙ ap (bound_of n) (answered r)
+    let r = c in
+    let n = (given (from r.before.before.before.before.before.before)).header.count in
+    bound-is n r.answer_on_copy-a.result c.if-a-ne0.false c.capped_sum.ensures ∙ ap (bound_of n) (answered r.before.before.before.before.before.before)
 
 pub bounded_spec : {M : Type 1} → statement M
-bounded_spec =
-    tie.close
-    (tie.spec
+bounded_spec = tie.close (tie.spec
     float-from-bits-largest
     with-cutoff-requires
     answer-on-copy-requires

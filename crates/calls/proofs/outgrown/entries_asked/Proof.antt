@@ -18,32 +18,36 @@ given c = held c.args.h c.args.store.now
 abbrev room : tie.Start → ℕ
 room c = length c.args.scratch.now
 
-counted-requires : tie.Need-counted-requires
+counted-requires : tie.Need-counted-a-requires
 counted-requires c κs = search rules
 
-same_length : tie.Need-same-length
+same_length : tie.Need-shape_of-scratch-then-a
 same_length c = search rules
 
-returns : tie.Need-returns
+returns : tie.Need-returns-then-a
 returns c =
-    let a = c.before.before.before in
-    let b = a.before.before.before.before in
-    exactly (call b) (given b) (room b) a.counted.ensures c.if1.true
+    let a = c in
+    let b = a in
+    exactly (call b.before.before.before.before.before.before.before) (given b.before.before.before.before.before.before.before) (room b.before.before.before.before.before.before.before) a.counted-a.ensures c.if-a.true
 
 bounded-requires : tie.Need-bounded-requires
 bounded-requires c κs = search rules
 
-same-length-2 : tie.Need-same-length-2
+same-length-2 : tie.Need-shape_of-scratch
 same-length-2 c = search rules
 
-returns-2 : tie.Need-returns-2
+returns-2 : tie.Need-returns
 returns-2 c =
-    let e = c.before.before.before.before in
-    let a = e.before.before.before in
-    let b = a.before.before.before.before in
-    at_most (call b) (given b) (room b) a.counted.ensures e.if1.false c.before.before.bounded.ensures
+    let e = c in
+    let a = e in
+    let b = a in
+    at_most (call b.before.before.before.before.before.before.before.before.before.before.before) (given b.before.before.before.before.before.before.before.before.before.before.before) (room b.before.before.before.before.before.before.before.before.before.before.before) a.counted-a.ensures e.if-a.false c.bounded.ensures
 
-pub entries-asked-spec : {M : Type 1} → statement M
-entries-asked-spec =
-    tie.close
-    (tie.spec counted-requires same_length returns bounded-requires same-length-2 returns-2)
+pub entries_asked_spec : {M : Type 1} → statement M
+entries_asked_spec = tie.close (tie.spec
+    counted-requires
+    same_length
+    returns
+    bounded-requires
+    same-length-2
+    returns-2)

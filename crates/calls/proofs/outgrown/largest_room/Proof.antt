@@ -8,25 +8,30 @@ use Rattle.calls.specs.Outgrown.{largest_room}
 use Rattle.calls.proofs.outgrown.largest_room.Statement.{statement}
 use Rattle.calls.proofs.outgrown.largest_room.Tie as tie
 
-entry-len-requires : tie.Need-entry-len-requires
+entry-len-requires : tie.Need-entry_len-requires
 entry-len-requires c κs = search rules
 
-mul-result : tie.Need-overflow-mul-result
+mul-result : tie.Need-overflow_mul-result
 mul-result c = search rules
 
-returns : tie.Need-returns
+returns : tie.Need-returns-then-size-le-MAX_COEFFICIENTS
 unfolding largest_room
 returns c =
-    rw (le-leb _ max_qubits c.before.before.before.if1.true, le-leb _ max_coefficients c.before.if2.true)
-    (ap (λ (n : ℕ). max_capacity * n) c.entry-len.ensures)
+    rw (le-leb _ max_qubits c.if-size-le-MAX_QUBITS.true, le-leb _ max_coefficients c.if-size-le-MAX_COEFFICIENTS.true)
+    (ap (λ (n : ℕ). max_capacity * n) c.entry_len.ensures)
 
-returns-2 : tie.Need-returns-2
+returns-2 : tie.Need-returns-else-size-le-MAX_COEFFICIENTS
 unfolding largest_room
-returns-2 c = rw (le-leb _ max_qubits c.before.before.if1.true, lt-leb _ max_coefficients c.if2.false)
+returns-2 c = rw (le-leb _ max_qubits c.if-size-le-MAX_QUBITS.true, lt-leb _ max_coefficients c.if-size-le-MAX_COEFFICIENTS.false)
 
-returns-3 : tie.Need-returns-3
+returns-3 : tie.Need-returns-else-size-le-MAX_QUBITS
 unfolding largest_room
-returns-3 c = rw (lt-leb _ max_qubits c.if1.false)
+returns-3 c = rw (lt-leb _ max_qubits c.if-size-le-MAX_QUBITS.false)
 
-pub largest-room-spec : {M : Type 1} → statement M
-largest-room-spec = tie.close (tie.spec entry-len-requires mul-result returns returns-2 returns-3)
+pub largest_room_spec : {M : Type 1} → statement M
+largest_room_spec = tie.close (tie.spec
+    entry-len-requires
+    mul-result
+    returns
+    returns-2
+    returns-3)

@@ -18,26 +18,29 @@ given c = held c.args.h c.args.store.now
 abbrev room : tie.Start → ℕ
 room c = length c.args.scratch.now
 
-returns : tie.Need-returns
-returns c = short-of _ _ _ c.if1.true
+returns : tie.Need-returns-then-scratch-store
+returns c = short-of _ _ _ c.if-scratch-store.true
 
-entries-asked-requires : tie.Need-entries-asked-requires
+entries-asked-requires : tie.Need-entries_asked-a-requires
 entries-asked-requires c κs = search rules
 
-fitting-cutoff-requires : tie.Need-fitting-cutoff-requires
+fitting-cutoff-requires : tie.Need-fitting_cutoff-requires
 fitting-cutoff-requires c κs = search rules
 
-same_length : tie.Need-same-length
+same_length : tie.Need-shape_of-scratch
 same_length c = search rules
 
-returns-2 : tie.Need-returns-2
+returns-2 : tie.Need-returns
 returns-2 c =
-    let a = c.before.before.before.before.before.before in
-    let e = a.before.before in
-    let b = e.before.before.before in
-    both (call b) (given b) (room b) e.if1.false a.entries-asked.ensures c.before.before.fitting-cutoff.ensures
+    let a = c in
+    let e = a in
+    let b = e in
+    both (call b.before.before.before.before.before.before.before.before.before.before.before) (given b.before.before.before.before.before.before.before.before.before.before.before) (room b.before.before.before.before.before.before.before.before.before.before.before) e.if-scratch-store.false a.entries_asked-a.ensures c.fitting_cutoff.ensures
 
-pub outgrown-by-spec : {M : Type 1} → statement M
-outgrown-by-spec =
-    tie.close
-    (tie.spec returns entries-asked-requires fitting-cutoff-requires same_length returns-2)
+pub outgrown_by_spec : {M : Type 1} → statement M
+outgrown_by_spec = tie.close (tie.spec
+    returns
+    entries-asked-requires
+    fitting-cutoff-requires
+    same_length
+    returns-2)

@@ -7,29 +7,33 @@ use Rattle.circuit.proofs.RunEnds.{at-inside}
 use Rattle.circuit.proofs.arguments.arguments_at.Statement.{statement}
 use Rattle.circuit.proofs.arguments.arguments_at.Tie as tie
 
-is-at-requires : tie.Need-is-at-requires
+is-at-requires : tie.Need-is_at-requires
 is-at-requires c κs = search rules
 
-add-inside : tie.Need-overflow-add-inside
+add-inside : tie.Need-overflow_add-at
 add-inside c = search rules
 
 inside-requires : tie.Need-inside-requires
 inside-requires c κs =
-    let a = c.before.before.before.args in
-    omega (arith, at-inside a.line.now a.at 40 (sym c.before.is_at.ensures ∙ c.if1.true))
+    let a = c.args in
+    omega (arith, at-inside a.line.now a.at 40 (sym c.is_at.ensures ∙ c.if-is_at.true))
 
-returns : tie.Need-returns
+returns : tie.Need-returns-then-is_at
 returns c =
-    let i = c.before.before in
-    let a = i.before.before.args in
-    ((omega arith, omega arith, omega arith), c.inside.ensures.1 ∙ has-arguments a.line.now a.at (sym i.is_at.ensures ∙ c.before.if1.true))
+    let i = c in
+    let a = i.args in
+    ((omega arith, omega arith, omega arith), c.inside.ensures.1 ∙ has-arguments a.line.now a.at (sym i.is_at.ensures ∙ c.if-is_at.true))
 
-returns-2 : tie.Need-returns-2
+returns-2 : tie.Need-returns
 returns-2 c =
-    let i = c.before in
-    let a = i.before.before.args in
-    ((omega arith, omega arith, omega arith), no_arguments a.line.now a.at (sym i.is_at.ensures ∙ c.if1.false))
+    let i = c in
+    let a = i.args in
+    ((omega arith, omega arith, omega arith), no_arguments a.line.now a.at (sym i.is_at.ensures ∙ c.if-is_at.false))
 
-pub arguments-at-spec : {M : Type 1} → statement M
-arguments-at-spec =
-    tie.close (tie.spec is-at-requires add-inside inside-requires returns returns-2)
+pub arguments_at_spec : {M : Type 1} → statement M
+arguments_at_spec = tie.close (tie.spec
+    is-at-requires
+    add-inside
+    inside-requires
+    returns
+    returns-2)

@@ -7,30 +7,35 @@ use Rattle.circuit.proofs.RunEnds.{not_end}
 use Rattle.circuit.proofs.arguments.shown_to.Statement.{statement}
 use Rattle.circuit.proofs.arguments.shown_to.Tie as tie
 
-returns : tie.Need-returns
+returns : tie.Need-returns-then-from-to
 returns c =
-    let a = c.before.before.args in
-    ((omega arith, omega arith), shown-word a.line.now a.from a.to c.if1.true)
+    let a = c.args in
+    ((omega arith, omega arith), shown-word a.line.now a.from a.to c.if-from-to.true)
 
-is-end-requires : tie.Need-is-end-requires
+is-end-requires : tie.Need-is_end-requires
 is-end-requires c κs = search rules
 
-returns-2 : tie.Need-returns-2
+returns-2 : tie.Need-returns-then-is_end
 returns-2 c =
-    let l = c.before.before in
-    let a = l.before.before.args in
-    ((omega arith, omega arith), shown-none a.line.now a.from a.to l.if1.false (sym c.before.is-end.ensures ∙ c.if2.true))
+    let l = c in
+    let a = l.args in
+    ((omega arith, omega arith), shown-none a.line.now a.from a.to l.if-from-to.false (sym c.is_end.ensures ∙ c.if-is_end.true))
 
-add-result : tie.Need-overflow-add-result
+add-result : tie.Need-overflow_add-result
 add-result c = search rules
 
-returns-3 : tie.Need-returns-3
+returns-3 : tie.Need-returns
 returns-3 c =
-    let l = c.before.before in
-    let a = l.before.before.args in
-    let e = sym c.before.is-end.ensures ∙ c.if2.false in
+    let l = c in
+    let a = l.args in
+    let e = sym c.is_end.ensures ∙ c.if-is_end.false in
     let i = not_end a.line.now a.from e in
-    ((omega arith, omega arith), shown-byte a.line.now a.from a.to l.if1.false e)
+    ((omega arith, omega arith), shown-byte a.line.now a.from a.to l.if-from-to.false e)
 
-pub shown-to-spec : {M : Type 1} → statement M
-shown-to-spec = tie.close (tie.spec returns is-end-requires returns-2 add-result returns-3)
+pub shown_to_spec : {M : Type 1} → statement M
+shown_to_spec = tie.close (tie.spec
+    returns
+    is-end-requires
+    returns-2
+    add-result
+    returns-3)

@@ -5,20 +5,24 @@ use Rattle.circuit.specs.Names.{capital}
 use Rattle.circuit.proofs.names.capital.Statement.{statement}
 use Rattle.circuit.proofs.names.capital.Tie as tie
 
-returns : tie.Need-returns
+returns : tie.Need-returns-then-b-lt97
 unfolding capital
-returns c = simp (lt-ltb _ _ c.if1.true)
+returns c = simp (lt-ltb _ _ c.if-b-lt97.true)
 
-returns-2 : tie.Need-returns-2
+returns-2 : tie.Need-returns-then-b-gt122
 unfolding capital
-returns-2 c = simp (le-ltb _ _ c.before.if1.false, lt-ltb _ _ c.if2.true)
+returns-2 c = simp (le-ltb _ _ c.if-b-lt97.false, lt-ltb _ _ c.if-b-gt122.true)
 
-sub-result : tie.Need-overflow-sub-result
+sub-result : tie.Need-overflow_sub-result
 sub-result c = search rules
 
-returns-3 : tie.Need-returns-3
+returns-3 : tie.Need-returns
 unfolding capital
-returns-3 c = simp (le-ltb _ _ c.before.if1.false, le-ltb _ _ c.if2.false)
+returns-3 c = simp (le-ltb _ _ c.if-b-lt97.false, le-ltb _ _ c.if-b-gt122.false)
 
-pub capital-spec : {M : Type 1} → statement M
-capital-spec = tie.close (tie.spec returns returns-2 sub-result returns-3)
+pub capital_spec : {M : Type 1} → statement M
+capital_spec = tie.close (tie.spec
+    returns
+    returns-2
+    sub-result
+    returns-3)

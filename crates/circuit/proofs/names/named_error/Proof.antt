@@ -5,67 +5,49 @@ use Rattle.circuit.specs.Names.{named_error}
 use Rattle.circuit.proofs.names.named_error.Statement.{statement}
 use Rattle.circuit.proofs.names.named_error.Tie as tie
 
-slice-aggregate-is-named : tie.Need-slice-aggregate-is-named
-slice-aggregate-is-named c = search rules
-
-is-named-requires : tie.Need-is-named-requires
+is-named-requires : tie.Need-is_named-requires
 is-named-requires c κs = search rules
 
-returns : tie.Need-returns
+returns : tie.Need-returns-then-is_named
 unfolding named_error
-returns c = simp (sym c.before.is-named.ensures ∙ c.if1.true)
+returns c = simp (sym c.is_named.ensures ∙ c.if-is_named.true)
 
-slice-aggregate-is-named-2 : tie.Need-slice-aggregate-is-named-2
-slice-aggregate-is-named-2 c = search rules
-
-is-named-requires-2 : tie.Need-is-named-requires-2
+is-named-requires-2 : tie.Need-is_named-requires-2
 is-named-requires-2 c κs = search rules
 
-returns-2 : tie.Need-returns-2
+returns-2 : tie.Need-returns-then-is_named-2
 unfolding named_error
-returns-2 c = simp (sym c.before.before.before.before.is-named.ensures ∙ c.before.before.before.if1.false, sym c.before.is-named2.ensures ∙ c.if2.true)
+returns-2 c = simp (sym c.is_named.ensures ∙ c.if-is_named.false, sym c.is_named-2.ensures ∙ c.if-is_named-2.true)
 
-slice-aggregate-is-named-3 : tie.Need-slice-aggregate-is-named-3
-slice-aggregate-is-named-3 c = search rules
-
-is-named-requires-3 : tie.Need-is-named-requires-3
+is-named-requires-3 : tie.Need-is_named-requires-3
 is-named-requires-3 c κs = search rules
 
-returns-3 : tie.Need-returns-3
+returns-3 : tie.Need-returns-then-is_named-3
 unfolding named_error
-returns-3 c = simp (sym c.before.before.before.before.before.before.before.is-named.ensures ∙ c.before.before.before.before.before.before.if1.false, sym c.before.before.before.before.is-named2.ensures ∙ c.before.before.before.if2.false, sym c.before.is-named3.ensures ∙ c.if3.true)
+returns-3 c = simp (sym c.is_named.ensures ∙ c.if-is_named.false, sym c.is_named-2.ensures ∙ c.if-is_named-2.false, sym c.is_named-3.ensures ∙ c.if-is_named-3.true)
 
-slice-aggregate-is-named-4 : tie.Need-slice-aggregate-is-named-4
-slice-aggregate-is-named-4 c = search rules
-
-is-named-requires-4 : tie.Need-is-named-requires-4
+is-named-requires-4 : tie.Need-is_named-requires-4
 is-named-requires-4 c κs = search rules
 
-returns-4 : tie.Need-returns-4
+returns-4 : tie.Need-returns-then-is_named-4
 unfolding named_error
-returns-4 c = simp (sym c.before.before.before.before.before.before.before.before.before.before.is-named.ensures ∙ c.before.before.before.before.before.before.before.before.before.if1.false, sym c.before.before.before.before.before.before.before.is-named2.ensures ∙ c.before.before.before.before.before.before.if2.false, sym c.before.before.before.before.is-named3.ensures ∙ c.before.before.before.if3.false, sym c.before.is-named4.ensures ∙ c.if4.true)
+returns-4 c = simp (sym c.is_named.ensures ∙ c.if-is_named.false, sym c.is_named-2.ensures ∙ c.if-is_named-2.false, sym c.is_named-3.ensures ∙ c.if-is_named-3.false, sym c.is_named-4.ensures ∙ c.if-is_named-4.true)
 
-named-channel-requires : tie.Need-named-channel-requires
+named-channel-requires : tie.Need-named_channel-requires
 named-channel-requires c κs = search rules
 
-returns-5 : tie.Need-returns-5
+returns-5 : tie.Need-returns
 unfolding named_error
-returns-5 c = simp (sym c.before.before.before.before.before.before.before.before.before.before.before.is-named.ensures ∙ c.before.before.before.before.before.before.before.before.before.before.if1.false, sym c.before.before.before.before.before.before.before.before.is-named2.ensures ∙ c.before.before.before.before.before.before.before.if2.false, sym c.before.before.before.before.before.is-named3.ensures ∙ c.before.before.before.before.if3.false, sym c.before.before.is-named4.ensures ∙ c.before.if4.false) c.named-channel.ensures
+returns-5 c = simp (sym c.is_named.ensures ∙ c.if-is_named.false, sym c.is_named-2.ensures ∙ c.if-is_named-2.false, sym c.is_named-3.ensures ∙ c.if-is_named-3.false, sym c.is_named-4.ensures ∙ c.if-is_named-4.false) c.named_channel.ensures
 
-pub named-error-spec : {M : Type 1} → statement M
-named-error-spec =
-    tie.close
-    (tie.spec
-    slice-aggregate-is-named
+pub named_error_spec : {M : Type 1} → statement M
+named_error_spec = tie.close (tie.spec
     is-named-requires
     returns
-    slice-aggregate-is-named-2
     is-named-requires-2
     returns-2
-    slice-aggregate-is-named-3
     is-named-requires-3
     returns-3
-    slice-aggregate-is-named-4
     is-named-requires-4
     returns-4
     named-channel-requires

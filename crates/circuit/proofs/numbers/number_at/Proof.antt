@@ -10,10 +10,10 @@ use Rattle.circuit.specs.declared.lines.Verdict.{Verdict}
 use Rattle.circuit.proofs.numbers.number_at.Statement.{statement}
 use Rattle.circuit.proofs.numbers.number_at.Tie as tie
 
-decimal-requires : tie.Need-decimal-requires
+decimal-requires : tie.Need-decimal-d-requires
 decimal-requires c κs = search rules
 
-verdict-of-requires : tie.Need-verdict-of-requires
+verdict-of-requires : tie.Need-verdict_of-requires
 verdict-of-requires c κs = search rules
 
 -- what stands there, by what `decimal` has found
@@ -26,9 +26,12 @@ judged text at d e v f =
 
 returns : tie.Need-returns
 returns c =
-    let d = c.before.decimal in
-    let a = c.before.before.before.args in
-    ((d.ensures.1.after, d.ensures.1.inside c.before.before.before.requires), judged a.line.now a.from d.result d.ensures.0 c.verdict-of.result c.verdict-of.ensures)
+    let d = c.decimal-d in
+    let a = c.args in
+    ((d.ensures.1.after, d.ensures.1.inside c.requires), judged a.line.now a.from d.result d.ensures.0 c.verdict_of.result c.verdict_of.ensures)
 
-pub number-at-spec : {M : Type 1} → statement M
-number-at-spec = tie.close (tie.spec decimal-requires verdict-of-requires returns)
+pub number_at_spec : {M : Type 1} → statement M
+number_at_spec = tie.close (tie.spec
+    decimal-requires
+    verdict-of-requires
+    returns)

@@ -10,10 +10,10 @@ use Rattle.circuit.specs.declared.numbers.Whole.{Whole}
 use Rattle.circuit.proofs.numbers.whole_at.Statement.{statement}
 use Rattle.circuit.proofs.numbers.whole_at.Tie as tie
 
-whole-requires : tie.Need-whole-requires
+whole-requires : tie.Need-whole-w-requires
 whole-requires c κs = search rules
 
-whole-of-requires : tie.Need-whole-of-requires
+whole-of-requires : tie.Need-whole_of-requires
 whole-of-requires c κs = search rules
 
 -- what stands there, by what `decimal` has found
@@ -24,9 +24,12 @@ counted text at d e w f =
 
 returns : tie.Need-returns
 returns c =
-    let d = c.before.whole in
-    let a = c.before.before.before.args in
-    ((d.ensures.1.after, d.ensures.1.inside c.before.before.before.requires), counted a.line.now a.from d.result d.ensures.0 c.whole_of.result c.whole_of.ensures)
+    let d = c.whole-w in
+    let a = c.args in
+    ((d.ensures.1.after, d.ensures.1.inside c.requires), counted a.line.now a.from d.result d.ensures.0 c.whole_of.result c.whole_of.ensures)
 
-pub whole-at-spec : {M : Type 1} → statement M
-whole-at-spec = tie.close (tie.spec whole-requires whole-of-requires returns)
+pub whole_at_spec : {M : Type 1} → statement M
+whole_at_spec = tie.close (tie.spec
+    whole-requires
+    whole-of-requires
+    returns)

@@ -4,17 +4,20 @@ use Rattle.circuit.specs.Numbers.{whole_of}
 use Rattle.circuit.proofs.numbers.whole_of.Statement.{statement}
 use Rattle.circuit.proofs.numbers.whole_of.Tie as tie
 
-returns : tie.Need-returns
+returns : tie.Need-returns-then-status-eq0
 unfolding whole_of
-returns c = simp (eq-eqb _ _ c.if1.true)
+returns c = simp (eq-eqb _ _ c.if-status-eq0.true)
 
-returns-2 : tie.Need-returns-2
+returns-2 : tie.Need-returns-then-status-eq2
 unfolding whole_of
-returns-2 c = simp (ne_eqb _ _ c.before.if1.false, eq-eqb _ _ c.if2.true)
+returns-2 c = simp (ne_eqb _ _ c.if-status-eq0.false, eq-eqb _ _ c.if-status-eq2.true)
 
-returns-3 : tie.Need-returns-3
+returns-3 : tie.Need-returns
 unfolding whole_of
-returns-3 c = simp (ne_eqb _ _ c.before.if1.false, ne_eqb _ _ c.if2.false)
+returns-3 c = simp (ne_eqb _ _ c.if-status-eq0.false, ne_eqb _ _ c.if-status-eq2.false)
 
-pub whole-of-spec : {M : Type 1} → statement M
-whole-of-spec = tie.close (tie.spec returns returns-2 returns-3)
+pub whole_of_spec : {M : Type 1} → statement M
+whole_of_spec = tie.close (tie.spec
+    returns
+    returns-2
+    returns-3)

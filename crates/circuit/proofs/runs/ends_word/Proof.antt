@@ -5,16 +5,19 @@ use Rattle.circuit.specs.Runs.{ends_word}
 use Rattle.circuit.proofs.runs.ends_word.Statement.{statement}
 use Rattle.circuit.proofs.runs.ends_word.Tie as tie
 
-returns : tie.Need-returns
+returns : tie.Need-returns-then-b-eq35
 unfolding ends_word
-returns c = simp (eq-eqb _ _ c.if1.true)
+returns c = simp (eq-eqb _ _ c.if-b-eq35.true)
 
-is-blank-requires : tie.Need-is-blank-requires
+is-blank-requires : tie.Need-is_blank-requires
 is-blank-requires c κs = search rules
 
-returns-2 : tie.Need-returns-2
+returns-2 : tie.Need-returns
 unfolding ends_word
-returns-2 c = simp (ne_eqb _ _ c.before.if1.false) c.is-blank.ensures
+returns-2 c = simp (ne_eqb _ _ c.if-b-eq35.false) c.is_blank.ensures
 
-pub ends-word-spec : {M : Type 1} → statement M
-ends-word-spec = tie.close (tie.spec returns is-blank-requires returns-2)
+pub ends_word_spec : {M : Type 1} → statement M
+ends_word_spec = tie.close (tie.spec
+    returns
+    is-blank-requires
+    returns-2)

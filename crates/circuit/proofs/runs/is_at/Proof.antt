@@ -5,16 +5,19 @@ use Rattle.circuit.specs.Runs.{is_at}
 use Rattle.circuit.proofs.runs.is_at.Statement.{statement}
 use Rattle.circuit.proofs.runs.is_at.Tie as tie
 
-shared-slice-read-result : tie.Need-shared-slice-read-result
+shared-slice-read-result : tie.Need-bounds-line-at
 shared-slice-read-result c = search rules
 
-returns : tie.Need-returns
+returns : tie.Need-returns-then-at-line
 unfolding is_at
-returns c = simp (lt-ltb _ _ c.before.if1.true)
+returns c = simp (lt-ltb _ _ c.if-at-line.true)
 
-returns-2 : tie.Need-returns-2
+returns-2 : tie.Need-returns
 unfolding is_at
-returns-2 c = simp (le-ltb _ _ c.if1.false)
+returns-2 c = simp (le-ltb _ _ c.if-at-line.false)
 
-pub is-at-spec : {M : Type 1} → statement M
-is-at-spec = tie.close (tie.spec shared-slice-read-result returns returns-2)
+pub is_at_spec : {M : Type 1} → statement M
+is_at_spec = tie.close (tie.spec
+    shared-slice-read-result
+    returns
+    returns-2)

@@ -7,20 +7,24 @@ use Rattle.circuit.specs.Runs.{is_of_argument}
 use Rattle.circuit.proofs.runs.is_of_argument.Statement.{statement}
 use Rattle.circuit.proofs.runs.is_of_argument.Tie as tie
 
-returns : tie.Need-returns
+returns : tie.Need-returns-then-b-eq44
 unfolding is_of_argument
-returns c = simp (eq-eqb _ _ c.if1.true)
+returns c = simp (eq-eqb _ _ c.if-b-eq44.true)
 
-returns-2 : tie.Need-returns-2
+returns-2 : tie.Need-returns-then-b-eq41
 unfolding is_of_argument
-returns-2 c = simp (ne_eqb _ _ c.before.if1.false, eq-eqb _ _ c.if2.true)
+returns-2 c = simp (ne_eqb _ _ c.if-b-eq44.false, eq-eqb _ _ c.if-b-eq41.true)
 
-ends-word-requires : tie.Need-ends-word-requires
+ends-word-requires : tie.Need-ends_word-requires
 ends-word-requires c κs = search rules
 
-returns-3 : tie.Need-returns-3
+returns-3 : tie.Need-returns
 unfolding is_of_argument
-returns-3 c = simp (ne_eqb _ _ c.before.before.if1.false, ne_eqb _ _ c.before.if2.false) (ap not c.ends-word.ensures)
+returns-3 c = simp (ne_eqb _ _ c.if-b-eq44.false, ne_eqb _ _ c.if-b-eq41.false) (ap not c.ends_word.ensures)
 
-pub is-of-argument-spec : {M : Type 1} → statement M
-is-of-argument-spec = tie.close (tie.spec returns returns-2 ends-word-requires returns-3)
+pub is_of_argument_spec : {M : Type 1} → statement M
+is_of_argument_spec = tie.close (tie.spec
+    returns
+    returns-2
+    ends-word-requires
+    returns-3)

@@ -5,27 +5,31 @@ use Rattle.circuit.proofs.Reading.{no-qubit, a-qubit}
 use Rattle.circuit.proofs.targets.next_qubit.Statement.{statement}
 use Rattle.circuit.proofs.targets.next_qubit.Tie as tie
 
-end-requires : tie.Need-end-requires
+end-requires : tie.Need-end-from-requires
 end-requires c κs = search rules
 
-is-end-requires : tie.Need-is-end-requires
+is-end-requires : tie.Need-is_end-requires
 is-end-requires c κs = search rules
 
-returns : tie.Need-returns
+returns : tie.Need-returns-then-is_end
 returns c =
-    let e = c.before.before in
-    let a = e.before.before.args in
-    no-qubit a.line.now a.at e.end.result e.end.ensures.1 (sym c.before.is-end.ensures ∙ c.if1.true)
+    let e = c in
+    let a = e.args in
+    no-qubit a.line.now a.at e.end-from.result e.end-from.ensures.1 (sym c.is_end.ensures ∙ c.if-is_end.true)
 
-qubit-at-requires : tie.Need-qubit-at-requires
+qubit-at-requires : tie.Need-qubit_at-requires
 qubit-at-requires c κs = search rules
 
-returns-2 : tie.Need-returns-2
+returns-2 : tie.Need-returns
 returns-2 c =
-    let e = c.before.before.before in
-    let a = e.before.before.args in
-    c.qubit-at.ensures ∙ a-qubit a.line.now a.at e.end.result e.end.ensures.1 (sym c.before.before.is-end.ensures ∙ c.before.if1.false)
+    let e = c in
+    let a = e.args in
+    c.qubit_at.ensures ∙ a-qubit a.line.now a.at e.end-from.result e.end-from.ensures.1 (sym c.is_end.ensures ∙ c.if-is_end.false)
 
-pub next-qubit-spec : {M : Type 1} → statement M
-next-qubit-spec =
-    tie.close (tie.spec end-requires is-end-requires returns qubit-at-requires returns-2)
+pub next_qubit_spec : {M : Type 1} → statement M
+next_qubit_spec = tie.close (tie.spec
+    end-requires
+    is-end-requires
+    returns
+    qubit-at-requires
+    returns-2)

@@ -8,13 +8,16 @@ use Rattle.circuit.proofs.targets.pair_of.Tie as tie
 bad-requires : tie.Need-bad-requires
 bad-requires c κs = search rules
 
-returns : tie.Need-returns
+returns : tie.Need-returns-then-p-q
 unfolding pair_of
-returns c = simp (eq-eqb _ _ c.before.if1.true) c.bad.ensures
+returns c = simp (eq-eqb _ _ c.if-p-q.true) c.bad.ensures
 
-returns-2 : tie.Need-returns-2
+returns-2 : tie.Need-returns
 unfolding pair_of
-returns-2 c = simp (ne_eqb _ _ c.if1.false)
+returns-2 c = simp (ne_eqb _ _ c.if-p-q.false)
 
-pub pair-of-spec : {M : Type 1} → statement M
-pair-of-spec = tie.close (tie.spec bad-requires returns returns-2)
+pub pair_of_spec : {M : Type 1} → statement M
+pair_of_spec = tie.close (tie.spec
+    bad-requires
+    returns
+    returns-2)

@@ -6,63 +6,61 @@ use borrow.Author.Rules.{rules}
 use Rattle.circuit.proofs.targets.reach_from.Statement.{statement}
 use Rattle.circuit.proofs.targets.reach_from.Tie as tie
 
-abbrev invariant-loop : tie.invariant-loop
-invariant-loop line from pairs limit qubits₀ at₀ qubits at = (qubits ≤ 64) × (at ≤ length line)
+abbrev invariant-loop-fault : tie.invariant-loop-fault
+invariant-loop-fault line from pairs limit qubits₀ at₀ qubits at = (qubits ≤ 64) × (at ≤ length line)
 
-abbrev decreases-loop : tie.decreases-loop
-decreases-loop line from pairs limit qubits₀ at₀ qubits at = length line - at
+abbrev decreases-loop-fault : tie.decreases-loop-fault
+decreases-loop-fault line from pairs limit qubits₀ at₀ qubits at = length line - at
 
-loop-holds : tie.Need-loop-init invariant-loop decreases-loop
+loop-holds : tie.Need-loop-fault-init invariant-loop-fault decreases-loop-fault
 loop-holds c = search rules
 
-next-requires : tie.Need-next-requires invariant-loop decreases-loop
+next-requires : tie.Need-next-t-requires invariant-loop-fault decreases-loop-fault
 next-requires c κs = search rules
 
-enum-known-seen : tie.Need-enum-known-seen invariant-loop decreases-loop
+enum-known-seen : tie.Need-enum_known-seen invariant-loop-fault decreases-loop-fault
 enum-known-seen c = search rules
 
-reached-requires : tie.Need-reached-requires invariant-loop decreases-loop
+reached-requires : tie.Need-reached-requires invariant-loop-fault decreases-loop-fault
 reached-requires c κs = search rules
 
-returns : tie.Need-returns invariant-loop decreases-loop
+returns : tie.Need-returns-in-Bad invariant-loop-fault decreases-loop-fault
 returns c = search rules
 
-enum-known-seen-2 : tie.Need-enum-known-seen-2 invariant-loop decreases-loop
+enum-known-seen-2 : tie.Need-enum_known-seen-in-At-1 invariant-loop-fault decreases-loop-fault
 enum-known-seen-2 c = search rules
 
-reached-requires-2 : tie.Need-reached-requires-2 invariant-loop decreases-loop
+reached-requires-2 : tie.Need-reached-requires-in_default-seen invariant-loop-fault decreases-loop-fault
 reached-requires-2 c κs = search rules
 
-returns-2 : tie.Need-returns-2 invariant-loop decreases-loop
+returns-2 : tie.Need-returns-in_default-seen invariant-loop-fault decreases-loop-fault
 returns-2 c = search rules
 
-more-requires : tie.Need-more-requires invariant-loop decreases-loop
+more-requires : tie.Need-more-requires invariant-loop-fault decreases-loop-fault
 more-requires c κs =
-    let k = c in let s = k.before.seen2.given in omega (arith, k.before.before.before.before.next.ensures.0.qubits s.0.0 s.0.1.0 s.1)
+    omega (arith, c.next-t.ensures.0.qubits c.in-At.p c.in-At.q c.in-At.is)
 
-more-requires-2 : tie.Need-more-requires-2 invariant-loop decreases-loop
+more-requires-2 : tie.Need-more-qubits-requires invariant-loop-fault decreases-loop-fault
 more-requires-2 c κs =
-    let k = c.before in let s = k.before.seen2.given in omega (arith, k.before.before.before.before.next.ensures.0.qubits s.0.0 s.0.1.0 s.1)
+    omega (arith, c.next-t.ensures.0.qubits c.in-At.p c.in-At.q c.in-At.is)
 
-reached-requires-3 : tie.Need-reached-requires-3 invariant-loop decreases-loop
+reached-requires-3 : tie.Need-reached-requires-then-limit-qubits invariant-loop-fault decreases-loop-fault
 reached-requires-3 c κs = search rules
 
-returns-3 : tie.Need-returns-3 invariant-loop decreases-loop
+returns-3 : tie.Need-returns-then-limit-qubits invariant-loop-fault decreases-loop-fault
 returns-3 c = search rules
 
-loop-less : tie.Need-loop-smaller invariant-loop decreases-loop
+loop-less : tie.Need-loop-fault-smaller invariant-loop-fault decreases-loop-fault
 loop-less c =
-    let k = c.before.before.before in let s = k.before.seen2.given in omega (arith, k.before.before.before.before.next.ensures.0.qubits s.0.0 s.0.1.0 s.1)
+    omega (arith, c.next-t.ensures.0.qubits c.in-At.p c.in-At.q c.in-At.is)
 
-loop-again : tie.Need-loop-preserved invariant-loop decreases-loop
+loop-again : tie.Need-loop-fault-preserved invariant-loop-fault decreases-loop-fault
 loop-again c = search rules
 
-pub reach-from-spec : {M : Type 1} → statement M
-reach-from-spec =
-    tie.close
-    (tie.spec
-    invariant-loop
-    decreases-loop
+pub reach_from_spec : {M : Type 1} → statement M
+reach_from_spec = tie.close (tie.spec
+    invariant-loop-fault
+    decreases-loop-fault
     loop-holds
     next-requires
     enum-known-seen

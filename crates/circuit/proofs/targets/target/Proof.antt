@@ -8,14 +8,17 @@ use Rattle.circuit.proofs.targets.target.Tie as tie
 next-requires : tie.Need-next-requires
 next-requires c κs = search rules
 
-returns : tie.Need-returns
+returns : tie.Need-returns-then-at-line
 returns c = search rules
 
-returns-2 : tie.Need-returns-2
+returns-2 : tie.Need-returns
 returns-2 c =
-    let a = c.before.before.args in
-    let l = c.if1.false in
+    let a = c.args in
+    let l = c.if-at-line.false in
     (past-onward a.line.now a.at (omega arith), target_past a.line.now a.at (omega arith) a.pairs)
 
-pub target-spec : {M : Type 1} → statement M
-target-spec = tie.close (tie.spec next-requires returns returns-2)
+pub target_spec : {M : Type 1} → statement M
+target_spec = tie.close (tie.spec
+    next-requires
+    returns
+    returns-2)

@@ -7,48 +7,46 @@ use borrow.Author.Rules.{rules}
 use Rattle.input.proofs.copying.put.Statement.{statement}
 use Rattle.input.proofs.copying.put.Tie as tie
 
-abbrev invariant-loop : tie.invariant-loop
-invariant-loop path₀ at text end₀ i₀ path end i = Unit {0}
+abbrev invariant-loop-i : tie.invariant-loop-i
+invariant-loop-i path₀ at text end₀ i₀ path end i = Unit {0}
 
-abbrev decreases-loop : tie.decreases-loop
-decreases-loop path₀ at text end₀ i₀ path end i = length text - i
+abbrev decreases-loop-i : tie.decreases-loop-i
+decreases-loop-i path₀ at text end₀ i₀ path end i = length text - i
 
-loop-holds : tie.Need-loop-init invariant-loop decreases-loop
+loop-holds : tie.Need-loop-i-init invariant-loop-i decreases-loop-i
 loop-holds c = search rules
 
-returns : tie.Need-returns invariant-loop decreases-loop
+returns : tie.Need-returns-then-end-ge4096 invariant-loop-i decreases-loop-i
 returns c = search rules
 
-shared-slice-read-path : tie.Need-shared-slice-read-path invariant-loop decreases-loop
+shared-slice-read-path : tie.Need-bounds-text-i invariant-loop-i decreases-loop-i
 shared-slice-read-path c = search rules
 
-element-write-path : tie.Need-element-write-path invariant-loop decreases-loop
+element-write-path : tie.Need-bounds-path-end invariant-loop-i decreases-loop-i
 element-write-path c = search rules
 
-add-end : tie.Need-overflow-add-end invariant-loop decreases-loop
+add-end : tie.Need-overflow_add-end invariant-loop-i decreases-loop-i
 add-end c = search rules
 
-add-i : tie.Need-overflow-add-i invariant-loop decreases-loop
+add-i : tie.Need-overflow_add-i invariant-loop-i decreases-loop-i
 add-i c = search rules
 
-loop-less : tie.Need-loop-smaller invariant-loop decreases-loop
+loop-less : tie.Need-loop-i-smaller invariant-loop-i decreases-loop-i
 loop-less c = search rules
 
-loop-again : tie.Need-loop-preserved invariant-loop decreases-loop
+loop-again : tie.Need-loop-i-preserved invariant-loop-i decreases-loop-i
 loop-again c = search rules
 
-returns-2 : tie.Need-returns-2 invariant-loop decreases-loop
+returns-2 : tie.Need-returns-then-end-ge4096-2 invariant-loop-i decreases-loop-i
 returns-2 c = search rules
 
-returns-3 : tie.Need-returns-3 invariant-loop decreases-loop
+returns-3 : tie.Need-returns invariant-loop-i decreases-loop-i
 returns-3 c = search rules
 
 pub put_spec : {M : Type 1} → statement M
-put_spec =
-    tie.close
-    (tie.spec
-    invariant-loop
-    decreases-loop
+put_spec = tie.close (tie.spec
+    invariant-loop-i
+    decreases-loop-i
     loop-holds
     returns
     shared-slice-read-path

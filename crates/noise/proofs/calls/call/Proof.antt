@@ -12,8 +12,8 @@ use borrow.Author.Rules.{rules}
 use Rattle.noise.proofs.calls.call.Statement.{statement}
 use Rattle.noise.proofs.calls.call.Tie as tie
 
-abbrev start : tie.After-noise-number → tie.Start
-start c = c.before.before.before
+abbrev start : tie.After-noise_number-number → tie.Start
+start c = c.before.before
 
 -- the sum as it is given
 abbrev given : tie.Start → Lent
@@ -23,38 +23,36 @@ given c = held c.args.h c.args.store.now
 makes : (b : tie.Start) (n : Noise) (r : Answer) (w : List ℕ) → gave r w ≡ step (noise n) (given b) → Stepped (noise n) b.args.known (given b) r w
 makes b n r w e = stepped (noise n) b.args.known (given b) r w b.requires.1 e
 
-noise-number-requires : tie.Need-noise-number-requires
+noise-number-requires : tie.Need-noise_number-number-requires
 noise-number-requires c κs = search rules
 
-plain-answer-requires : tie.Need-plain-answer-requires
+plain-answer-requires : tie.Need-plain_answer-requires
 plain-answer-requires c κs = search rules
 
-same_length : tie.Need-same-length
+same_length : tie.Need-shape_of-store-then-number-ne0
 same_length c = search rules
 
-returns : tie.Need-returns
+returns : tie.Need-returns-then-number-ne0
 returns c = λ n h m.
-    let t = c.before.before in
-    let x = given (start t) in
-    makes (start t) n _ _ (refusal x _ c.plain-answer.ensures (t.noise-number.ensures.1 n h m ∙ turned-away x _ (acted (noise n) x) c.before.if1.true))
+    let t = c in
+    let x = given (start t.before.before) in
+    makes (start t.before.before) n _ _ (refusal x _ c.plain_answer.ensures (t.noise_number-number.ensures.1 n h m ∙ turned-away x _ (acted (noise n) x) c.if-number-ne0.true))
 
 run-requires : tie.Need-run-requires
-run-requires c κs = let t = c.before.before in t.noise-number.ensures.0 c.before.if1.false
+run-requires c κs = let t = c in t.noise_number-number.ensures.0 c.if-number-ne0.false
 
-same-length-2 : tie.Need-same-length-2
+same-length-2 : tie.Need-shape_of-store
 same-length-2 c = search rules
 
-returns-2 : tie.Need-returns-2
+returns-2 : tie.Need-returns
 returns-2 c = λ n h m.
-    let e = c.before.before.before.before in
-    let t = e.before in
-    let x = given (start t) in
-    makes (start t) n _ _ (c.before.before.run.ensures n h ∙ sym (t.noise-number.ensures.1 n h m ∙ let_through x _ (acted (noise n) x) e.if1.false))
+    let e = c in
+    let t = e in
+    let x = given (start t.before.before.before.before.before) in
+    makes (start t.before.before.before.before.before) n _ _ (c.run.ensures n h ∙ sym (t.noise_number-number.ensures.1 n h m ∙ let_through x _ (acted (noise n) x) e.if-number-ne0.false))
 
-pub call-spec : {M : Type 1} → statement M
-call-spec =
-    tie.close
-    (tie.spec
+pub call_spec : {M : Type 1} → statement M
+call_spec = tie.close (tie.spec
     noise-number-requires
     plain-answer-requires
     same_length

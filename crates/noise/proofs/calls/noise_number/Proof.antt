@@ -13,7 +13,7 @@ use Rattle.noise.proofs.calls.noise_number.Tie as tie
 abbrev given : tie.Start → Lent
 given c = held c.args.h c.args.store.now
 
-own-number-requires : tie.Need-own-number-requires
+own-number-requires : tie.Need-own_number-own-requires
 own-number-requires c κs = search rules
 
 front-requires : tie.Need-front-requires
@@ -21,21 +21,24 @@ front-requires c κs = search rules
 
 returns : tie.Need-returns
 returns c =
-    let o = c.before in
-    let b = o.before.before.before in
-    let x = given b in
+    let o = c in
+    let b = o in
+    let x = given b.before.before.before.before in
     let n = x.header.size.n in (
       λ z.
           let f = sym c.front.ensures ∙ z in
-          let s = front-sound x o.own-number.result f in
+          let s = front-sound x o.own_number-own.result f in
           record {
             sound = s;
-            cutoff = front-cutoff x o.own-number.result f;
-            qubits = below_more n 64 b.args.arms.shape s.packed.sized.qubits.high (o.own-number.ensures.0 (front-passed _ x f).own-0);
+            cutoff = front-cutoff x o.own_number-own.result f;
+            qubits = below_more n 64 b.args.arms.shape s.packed.sized.qubits.high (o.own_number-own.ensures.0 (front-passed _ x f).own-0);
             few = b.requires.0;
           },
-      λ a h m. by_front (noise a) x _ _ (o.own-number.ensures.1 a h m ∙ own_is a x.header.size x.header.count) c.front.ensures,
+      λ a h m. by_front (noise a) x _ _ (o.own_number-own.ensures.1 a h m ∙ own_is a x.header.size x.header.count) c.front.ensures,
     )
 
-pub noise-number-spec : {M : Type 1} → statement M
-noise-number-spec = tie.close (tie.spec own-number-requires front-requires returns)
+pub noise_number_spec : {M : Type 1} → statement M
+noise_number_spec = tie.close (tie.spec
+    own-number-requires
+    front-requires
+    returns)

@@ -8,14 +8,17 @@ use borrow.Author.Rules.{rules}
 use Rattle.page.proofs.share.cut.Statement.{statement}
 use Rattle.page.proofs.share.cut.Tie as tie
 
-returns : tie.Need-returns
-returns c = sym (div-eq_of_lt (lt_of_lt_of_le {m = 2 ^ 64} (omega arith) (pow_mono c.if1.true)))
+returns : tie.Need-returns-then-places-gt63
+returns c = sym (div-eq_of_lt (lt_of_lt_of_le {m = 2 ^ 64} (omega arith) (pow_mono c.if-places-gt63.true)))
 
-shr-result : tie.Need-overflow-shr-result
+shr-result : tie.Need-overflow_shr-result
 shr-result c = search rules
 
-returns-2 : tie.Need-returns-2
+returns-2 : tie.Need-returns
 returns-2 c = search rules
 
 pub cut_spec : {M : Type 1} → statement M
-cut_spec = tie.close (tie.spec returns shr-result returns-2)
+cut_spec = tie.close (tie.spec
+    returns
+    shr-result
+    returns-2)

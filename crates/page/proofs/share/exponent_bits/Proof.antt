@@ -8,5 +8,6 @@ returns : tie.Need-returns
 unfolding exponent_bits
 returns c = refl
 
-pub exponent-bits-spec : {M : Type 1} → statement M
-exponent-bits-spec = tie.close (tie.spec returns)
+pub exponent_bits_spec : {M : Type 1} → statement M
+exponent_bits_spec = tie.close (tie.spec
+    returns)

@@ -30,7 +30,7 @@ product-requires c κs = search rules
 exponent-requires : tie.Need-exponent-requires
 exponent-requires c κs = search rules
 
-sub-cut : tie.Need-overflow-sub-cut
+sub-cut : tie.Need-overflow_sub-exponent
 sub-cut c = omega (arith, c.exponent.ensures, small c.before.before.before)
 
 cut-requires : tie.Need-cut-requires
@@ -39,10 +39,16 @@ cut-requires c κs = search rules
 returns : tie.Need-returns
 unfolding share
 returns c =
-    let e = c.before in
-    let p = e.before in
-    let w = p.before.before.args.weight in
-    rw (c.cut.ensures, p.product.ensures, p.before.significand.ensures, e.exponent.ensures) (cut_twice (1000000 * significand w) (exponent w) (small p.before.before))
+    let e = c in
+    let p = e in
+    let w = p.args.weight in
+    rw (c.cut.ensures, p.product.ensures, p.significand.ensures, e.exponent.ensures) (cut_twice (1000000 * significand w) (exponent w) (small p.before.before.before.before))
 
-pub share-spec : {M : Type 1} → statement M
-share-spec = tie.close (tie.spec significand-requires product-requires exponent-requires sub-cut cut-requires returns)
+pub share_spec : {M : Type 1} → statement M
+share_spec = tie.close (tie.spec
+    significand-requires
+    product-requires
+    exponent-requires
+    sub-cut
+    cut-requires
+    returns)

@@ -7,31 +7,37 @@ use borrow.Author.Rules.{rules}
 use Rattle.printing.proofs.floats.scaled_up.Statement.{statement}
 use Rattle.printing.proofs.floats.scaled_up.Tie as tie
 
-abbrev invariant-loop : tie.invariant-loop
-invariant-loop x digits₀ power₀ digits power = power ≤ 400
+abbrev invariant-loop-power : tie.invariant-loop-power
+invariant-loop-power x digits₀ power₀ digits power = power ≤ 400
 
-abbrev decreases-loop : tie.decreases-loop
-decreases-loop x digits₀ power₀ digits power = 400 - power
+abbrev decreases-loop-power : tie.decreases-loop-power
+decreases-loop-power x digits₀ power₀ digits power = 400 - power
 
-loop-holds : tie.Need-loop-init invariant-loop decreases-loop
+loop-holds : tie.Need-loop-power-init invariant-loop-power decreases-loop-power
 loop-holds c = search rules
 
-returns : tie.Need-returns invariant-loop decreases-loop
+returns : tie.Need-returns-then-digits invariant-loop-power decreases-loop-power
 returns c = search rules
 
-add-power : tie.Need-overflow-add-power invariant-loop decreases-loop
+add-power : tie.Need-overflow_add-power invariant-loop-power decreases-loop-power
 add-power c = search rules
 
-loop-less : tie.Need-loop-smaller invariant-loop decreases-loop
+loop-less : tie.Need-loop-power-smaller invariant-loop-power decreases-loop-power
 loop-less c = search rules
 
-loop-again : tie.Need-loop-preserved invariant-loop decreases-loop
+loop-again : tie.Need-loop-power-preserved invariant-loop-power decreases-loop-power
 loop-again c = search rules
 
-returns-2 : tie.Need-returns-2 invariant-loop decreases-loop
+returns-2 : tie.Need-returns invariant-loop-power decreases-loop-power
 returns-2 c = search rules
 
-pub scaled-up-spec : {M : Type 1} → statement M
-scaled-up-spec =
-    tie.close
-    (tie.spec invariant-loop decreases-loop loop-holds returns add-power loop-less loop-again returns-2)
+pub scaled_up_spec : {M : Type 1} → statement M
+scaled_up_spec = tie.close (tie.spec
+    invariant-loop-power
+    decreases-loop-power
+    loop-holds
+    returns
+    add-power
+    loop-less
+    loop-again
+    returns-2)

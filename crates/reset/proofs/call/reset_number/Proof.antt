@@ -11,7 +11,7 @@ use Rattle.reset.proofs.call.reset_number.Tie as tie
 abbrev given : tie.Start → Lent
 given c = held c.args.h c.args.store.now
 
-test-requires : tie.Need-test-requires
+test-requires : tie.Need-test-own-requires
 test-requires c κs = search rules
 
 front-requires : tie.Need-front-requires
@@ -19,11 +19,14 @@ front-requires c κs = search rules
 
 returns : tie.Need-returns
 returns c =
-    let t = c.before in
-    let b = t.before.before.before in
-    let x = given b in
+    let t = c in
+    let b = t in
+    let x = given b.before.before.before.before in
     let q = b.args.q in
-    (λ z. fit x q _ t.test.ensures (sym c.front.ensures ∙ z), by_front (reset q) x _ _ (t.test.ensures ∙ own_is x q) c.front.ensures)
+    (λ z. fit x q _ t.test-own.ensures (sym c.front.ensures ∙ z), by_front (reset q) x _ _ (t.test-own.ensures ∙ own_is x q) c.front.ensures)
 
-pub reset-number-spec : {M : Type 1} → statement M
-reset-number-spec = tie.close (tie.spec test-requires front-requires returns)
+pub reset_number_spec : {M : Type 1} → statement M
+reset_number_spec = tie.close (tie.spec
+    test-requires
+    front-requires
+    returns)

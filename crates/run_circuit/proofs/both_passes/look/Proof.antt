@@ -7,84 +7,79 @@ use borrow.Author.Rules.{rules}
 use Rattle.run_circuit.proofs.both_passes.look.Statement.{statement}
 use Rattle.run_circuit.proofs.both_passes.look.Tie as tie
 
-abbrev invariant-loop : tie.invariant-loop
-invariant-loop s name bytes₀ limit begun₀ c₀ told₀ t8 bytes begun c told = length bytes ≡ length bytes₀
+abbrev invariant-loop-told : tie.invariant-loop-told
+invariant-loop-told s name bytes₀ limit begun₀ c₀ told₀ t8 bytes begun c told = length bytes ≡ length bytes₀
 
-abbrev decreases-loop : tie.decreases-loop
-decreases-loop s name bytes₀ limit begun₀ c₀ told₀ t8 bytes begun c told = 20 - told
+abbrev decreases-loop-told : tie.decreases-loop-told
+decreases-loop-told s name bytes₀ limit begun₀ c₀ told₀ t8 bytes begun c told = 20 - told
 
-start-requires : tie.Need-start-requires invariant-loop decreases-loop
+start-requires : tie.Need-start-c-requires invariant-loop-told decreases-loop-told
 start-requires c κs = search rules
 
-loop-holds : tie.Need-loop-init invariant-loop decreases-loop
+loop-holds : tie.Need-loop-told-init invariant-loop-told decreases-loop-told
 loop-holds c = search rules
 
-check-requires : tie.Need-check-requires invariant-loop decreases-loop
+check-requires : tie.Need-check-c-requires invariant-loop-told decreases-loop-told
 check-requires c κs = search rules
 
-is-done-requires : tie.Need-is-done-requires invariant-loop decreases-loop
+is-done-requires : tie.Need-is_done-requires invariant-loop-told decreases-loop-told
 is-done-requires c κs = search rules
 
-same_length : tie.Need-same-length invariant-loop decreases-loop
+same_length : tie.Need-shape_of-bytes-then-is_done invariant-loop-told decreases-loop-told
 same_length c = search rules
 
-returns : tie.Need-returns invariant-loop decreases-loop
+returns : tie.Need-returns-then-is_done invariant-loop-told decreases-loop-told
 returns c = search rules
 
-tell-requires : tie.Need-tell-requires invariant-loop decreases-loop
+tell-requires : tie.Need-tell-requires invariant-loop-told decreases-loop-told
 tell-requires c κs = search rules
 
-can-go-on-requires : tie.Need-can-go-on-requires invariant-loop decreases-loop
+can-go-on-requires : tie.Need-can_go_on-requires invariant-loop-told decreases-loop-told
 can-go-on-requires c κs = search rules
 
-none-requires : tie.Need-none-requires invariant-loop decreases-loop
+none-requires : tie.Need-none-requires invariant-loop-told decreases-loop-told
 none-requires c κs = search rules
 
-same-length-2 : tie.Need-same-length-2 invariant-loop decreases-loop
+same-length-2 : tie.Need-shape_of-bytes-then-not-can_go_on invariant-loop-told decreases-loop-told
 same-length-2 c = search rules
 
-returns-2 : tie.Need-returns-2 invariant-loop decreases-loop
+returns-2 : tie.Need-returns-then-not-can_go_on invariant-loop-told decreases-loop-told
 returns-2 c = search rules
 
-resumed-requires : tie.Need-resumed-requires invariant-loop decreases-loop
+resumed-requires : tie.Need-resumed-c-requires invariant-loop-told decreases-loop-told
 resumed-requires c κs = search rules
 
-add-told : tie.Need-overflow-add-told invariant-loop decreases-loop
+add-told : tie.Need-overflow_add-told invariant-loop-told decreases-loop-told
 add-told c = search rules
 
-loop-less : tie.Need-loop-smaller invariant-loop decreases-loop
+loop-less : tie.Need-loop-told-smaller invariant-loop-told decreases-loop-told
 loop-less c = search rules
 
-loop-again : tie.Need-loop-preserved invariant-loop decreases-loop
+loop-again : tie.Need-loop-told-preserved invariant-loop-told decreases-loop-told
 loop-again c = search rules
 
-check-requires-2 : tie.Need-check-requires-2 invariant-loop decreases-loop
+check-requires-2 : tie.Need-check-c-requires-2 invariant-loop-told decreases-loop-told
 check-requires-2 c κs = search rules
 
-is-done-requires-2 : tie.Need-is-done-requires-2 invariant-loop decreases-loop
+is-done-requires-2 : tie.Need-is_done-requires-2 invariant-loop-told decreases-loop-told
 is-done-requires-2 c κs = search rules
 
-slice-aggregate-say : tie.Need-slice-aggregate-say invariant-loop decreases-loop
-slice-aggregate-say c = search rules
-
-say-requires : tie.Need-say-requires invariant-loop decreases-loop
+say-requires : tie.Need-say-requires invariant-loop-told decreases-loop-told
 say-requires c κs = search rules
 
-none-requires-2 : tie.Need-none-requires-2 invariant-loop decreases-loop
+none-requires-2 : tie.Need-none-requires-2 invariant-loop-told decreases-loop-told
 none-requires-2 c κs = search rules
 
-same-length-3 : tie.Need-same-length-3 invariant-loop decreases-loop
+same-length-3 : tie.Need-shape_of-bytes invariant-loop-told decreases-loop-told
 same-length-3 c = search rules
 
-returns-3 : tie.Need-returns-3 invariant-loop decreases-loop
+returns-3 : tie.Need-returns invariant-loop-told decreases-loop-told
 returns-3 c = search rules
 
 pub look_spec : {M : Type 1} → statement M
-look_spec =
-    tie.close
-    (tie.spec
-    invariant-loop
-    decreases-loop
+look_spec = tie.close (tie.spec
+    invariant-loop-told
+    decreases-loop-told
     start-requires
     loop-holds
     check-requires
@@ -102,7 +97,6 @@ look_spec =
     loop-again
     check-requires-2
     is-done-requires-2
-    slice-aggregate-say
     say-requires
     none-requires-2
     same-length-3

@@ -15,55 +15,49 @@ left-checked : (l : Left) (b : Start) (w : List ℕ) → l ≡ start b w → l.a
 left-checked l b w e z =
     subst (λ (l : Left). Checked (next l)) (sym e) (start-checked b w (sym (ap (λ (l : Left). l.answer.number) e) ∙ z))
 
-size-of-requires : tie.Need-size-of-requires
+size-of-requires : tie.Need-size_of-requires
 size-of-requires c κs = search rules
 
-fresh-requires : tie.Need-fresh-requires
+fresh-requires : tie.Need-fresh-a-requires
 fresh-requires c κs = search rules
 
-slice-aggregate-tell-refused : tie.Need-slice-aggregate-tell-refused
-slice-aggregate-tell-refused c = search rules
-
-tell-refused-requires : tie.Need-tell-refused-requires
+tell-refused-requires : tie.Need-tell_refused-requires
 tell-refused-requires c κs = search rules
 
-same_length : tie.Need-same-length
+same_length : tie.Need-shape_of-store-then-a-ne0
 same_length c = search rules
 
-returns : tie.Need-returns
+returns : tie.Need-returns-then-a-ne0
 returns c = search rules
 
-may-run-requires : tie.Need-may-run-requires
+may-run-requires : tie.Need-may_run-requires
 may-run-requires c κs = search rules
 
-run-from-requires : tie.Need-run-from-requires
-run-from-requires c κs = left-checked _ _ _ c.before.before.before.before.before.before.before.before.before.fresh.ensures c.before.before.before.before.before.if1.false
+run-from-requires : tie.Need-run_from-requires
+run-from-requires c κs = left-checked _ _ _ c.fresh-a.ensures c.if-a-ne0.false
 
-same-length-2 : tie.Need-same-length-2
+same-length-2 : tie.Need-shape_of-bytes-then-may_run
 same-length-2 c = search rules
 
-same-length-3 : tie.Need-same-length-3
+same-length-3 : tie.Need-shape_of-store-then-may_run
 same-length-3 c = search rules
 
-same-length-4 : tie.Need-same-length-4
+same-length-4 : tie.Need-shape_of-scratch-then-may_run
 same-length-4 c = search rules
 
-returns-2 : tie.Need-returns-2
+returns-2 : tie.Need-returns-then-may_run
 returns-2 c = search rules
 
-same-length-5 : tie.Need-same-length-5
+same-length-5 : tie.Need-shape_of-store
 same-length-5 c = search rules
 
-returns-3 : tie.Need-returns-3
+returns-3 : tie.Need-returns
 returns-3 c = search rules
 
-pub run-fresh-spec : {M : Type 1} → statement M
-run-fresh-spec =
-    tie.close
-    (tie.spec
+pub run_fresh_spec : {M : Type 1} → statement M
+run_fresh_spec = tie.close (tie.spec
     size-of-requires
     fresh-requires
-    slice-aggregate-tell-refused
     tell-refused-requires
     same_length
     returns

@@ -7,60 +7,58 @@ use borrow.Author.Rules.{rules}
 use Rattle.run_circuit.proofs.outputs.write_entries.Statement.{statement}
 use Rattle.run_circuit.proofs.outputs.write_entries.Tie as tie
 
-abbrev invariant-loop : tie.invariant-loop
-invariant-loop h store table count i₀ i = i ≤ 256
+abbrev invariant-loop-i : tie.invariant-loop-i
+invariant-loop-i h store table count i₀ i = i ≤ 256
 
-abbrev decreases-loop : tie.decreases-loop
-decreases-loop h store table count i₀ i = 256 - i
+abbrev decreases-loop-i : tie.decreases-loop-i
+decreases-loop-i h store table count i₀ i = 256 - i
 
-loop-holds : tie.Need-loop-init invariant-loop decreases-loop
+loop-holds : tie.Need-loop-i-init invariant-loop-i decreases-loop-i
 loop-holds c = search rules
 
-returns : tie.Need-returns invariant-loop decreases-loop
+returns : tie.Need-returns-then-count-i invariant-loop-i decreases-loop-i
 returns c = search rules
 
-mul-word-at : tie.Need-overflow-mul-word-at invariant-loop decreases-loop
+mul-word-at : tie.Need-overflow_mul-i invariant-loop-i decreases-loop-i
 mul-word-at c = search rules
 
-word-at-requires : tie.Need-word-at-requires invariant-loop decreases-loop
+word-at-requires : tie.Need-word_at-place-requires invariant-loop-i decreases-loop-i
 word-at-requires c κs = search rules
 
-weight-at-requires : tie.Need-weight-at-requires invariant-loop decreases-loop
+weight-at-requires : tie.Need-weight_at-requires invariant-loop-i decreases-loop-i
 weight-at-requires c κs = search rules
 
-mul-word-at-2 : tie.Need-overflow-mul-word-at-2 invariant-loop decreases-loop
+mul-word-at-2 : tie.Need-overflow_mul-i-in-loop-i invariant-loop-i decreases-loop-i
 mul-word-at-2 c = search rules
 
-add-word-at : tie.Need-overflow-add-word-at invariant-loop decreases-loop
+add-word-at : tie.Need-overflow_add-i invariant-loop-i decreases-loop-i
 add-word-at c = search rules
 
-word-at-requires-2 : tie.Need-word-at-requires-2 invariant-loop decreases-loop
+word-at-requires-2 : tie.Need-word_at-requires invariant-loop-i decreases-loop-i
 word-at-requires-2 c κs = search rules
 
-write-entry-requires : tie.Need-write-entry-requires invariant-loop decreases-loop
+write-entry-requires : tie.Need-write_entry-requires invariant-loop-i decreases-loop-i
 write-entry-requires c κs = search rules
 
-returns-2 : tie.Need-returns-2 invariant-loop decreases-loop
+returns-2 : tie.Need-returns-then-not-write_entry invariant-loop-i decreases-loop-i
 returns-2 c = search rules
 
-add-i : tie.Need-overflow-add-i invariant-loop decreases-loop
+add-i : tie.Need-overflow_add-i-in-loop-i invariant-loop-i decreases-loop-i
 add-i c = search rules
 
-loop-less : tie.Need-loop-smaller invariant-loop decreases-loop
+loop-less : tie.Need-loop-i-smaller invariant-loop-i decreases-loop-i
 loop-less c = search rules
 
-loop-again : tie.Need-loop-preserved invariant-loop decreases-loop
+loop-again : tie.Need-loop-i-preserved invariant-loop-i decreases-loop-i
 loop-again c = search rules
 
-returns-3 : tie.Need-returns-3 invariant-loop decreases-loop
+returns-3 : tie.Need-returns invariant-loop-i decreases-loop-i
 returns-3 c = search rules
 
-pub write-entries-spec : {M : Type 1} → statement M
-write-entries-spec =
-    tie.close
-    (tie.spec
-    invariant-loop
-    decreases-loop
+pub write_entries_spec : {M : Type 1} → statement M
+write_entries_spec = tie.close (tie.spec
+    invariant-loop-i
+    decreases-loop-i
     loop-holds
     returns
     mul-word-at

@@ -12,102 +12,100 @@ use Rattle.second_pass.proofs.Lines.{same_sum, same_known}
 use Rattle.second_pass.proofs.second.run_found.Statement.{statement}
 use Rattle.second_pass.proofs.second.run_found.Tie as tie
 
-enum_told : tie.Need-enum-told
+enum_told : tie.Need-enum_told-1
 enum_told c = search rules
 
-sub-run-item : tie.Need-overflow-sub-run-item
+sub-run-item : tie.Need-slice_bounds-run_item-count
 sub-run-item c = search rules
 
-part-run-item-start : tie.Need-slice-bounds-run-item-start
+part-run-item-start : tie.Need-slice_bounds-run_item-start
 part-run-item-start c = search rules
 
-part-run-item-end : tie.Need-slice-bounds-run-item-end
+part-run-item-end : tie.Need-slice_bounds-run_item-end
 part-run-item-end c = search rules
 
-run-item-requires : tie.Need-run-item-requires
+run-item-requires : tie.Need-run_item-requires
 run-item-requires c κs = search rules
 
-enum-told-2 : tie.Need-enum-told-2
+enum-told-2 : tie.Need-enum_told-in-End
 enum-told-2 c = search rules
 
 ended-requires : tie.Need-ended-requires
 ended-requires c κs = search rules
 
-enum-told-3 : tie.Need-enum-told-3
+enum-told-3 : tie.Need-enum_told-in-TooLong
 enum-told-3 c = search rules
 
-ended-requires-2 : tie.Need-ended-requires-2
+ended-requires-2 : tie.Need-ended-requires-in-TooLong
 ended-requires-2 c κs = search rules
 
-enum-told-4 : tie.Need-enum-told-4
+enum-told-4 : tie.Need-enum_told-in-Failed
 enum-told-4 c = search rules
 
-ended-requires-3 : tie.Need-ended-requires-3
+ended-requires-3 : tie.Need-ended-requires-in-Failed
 ended-requires-3 c κs = search rules
 
-enum-told-5 : tie.Need-enum-told-5
+enum-told-5 : tie.Need-enum_told-in-Cut
 enum-told-5 c = search rules
 
-ended-requires-4 : tie.Need-ended-requires-4
+ended-requires-4 : tie.Need-ended-requires-in-Cut
 ended-requires-4 c κs = search rules
 
-same_length : tie.Need-same-length
+same_length : tie.Need-shape_of-store
 same_length c = search rules
 
-returns : tie.Need-returns
+returns : tie.Need-returns-in-Line
 returns c =
-    let r = c.before.before.run-item in
-    let a = c.before.before.before.before.before.before.before.before.before.before.before.before in
+    let r = c.run_item in
+    let a = c in
     let x = held a.args.r.header a.args.store.now in
-    let y = held r.result.header r.new.1.1.0 in
+    let y = held r.result.header r.new.store in
     let w = a.args.r.pass.window in
     let text = take (w.to - w.from) (drop w.from a.args.bytes.now) in
-    (subst (λ (f : Found). Turn LineRan f text x y r.result.pass.outcome) (sym c.before.before.before.before.before.before.enum_told.given.1) (line r.ensures.0), r.ensures.1)
+    (subst (λ (f : Found). Turn LineRan f text x y r.result.pass.outcome) (sym c.in-Line.is) (line r.ensures.0), r.ensures.1)
 
-returns-2 : tie.Need-returns-2
+returns-2 : tie.Need-returns-in-End
 returns-2 c =
-    let a = c.before.before.before.before.before.before.before in
+    let a = c in
     let w = a.args.store.now in
     let r = c.ended.result in
     let e = c.ended.ensures in (
-      nothing_read LineRan (held a.args.r.header w) (held r.header w) (same_sum a.args.r r w e.1 e.2) c.before.enum-told2.given.1 e.0 done,
+      nothing_read LineRan (held a.args.r.header w) (held r.header w) (same_sum a.args.r r w e.1 e.2) c.in-End.is e.0 done,
       same_known a.args.r r w e.1 e.2 a.requires.3,
     )
 
-returns-3 : tie.Need-returns-3
+returns-3 : tie.Need-returns-in-TooLong
 returns-3 c =
-    let a = c.before.before.before.before.before.before.before in
+    let a = c in
     let w = a.args.store.now in
-    let r = c.ended2.result in
-    let e = c.ended2.ensures in (
-      nothing_read LineRan (held a.args.r.header w) (held r.header w) (same_sum a.args.r r w e.1 e.2) c.before.enum-told3.given.1 e.0 too_long,
+    let r = c.ended-in-TooLong.result in
+    let e = c.ended-in-TooLong.ensures in (
+      nothing_read LineRan (held a.args.r.header w) (held r.header w) (same_sum a.args.r r w e.1 e.2) c.in-TooLong.is e.0 too_long,
       same_known a.args.r r w e.1 e.2 a.requires.3,
     )
 
-returns-4 : tie.Need-returns-4
+returns-4 : tie.Need-returns-in-Failed
 returns-4 c =
-    let a = c.before.before.before.before.before.before.before in
+    let a = c in
     let w = a.args.store.now in
-    let r = c.ended3.result in
-    let e = c.ended3.ensures in (
-      nothing_read LineRan (held a.args.r.header w) (held r.header w) (same_sum a.args.r r w e.1 e.2) c.before.enum-told4.given.1 e.0 failed,
+    let r = c.ended-in-Failed.result in
+    let e = c.ended-in-Failed.ensures in (
+      nothing_read LineRan (held a.args.r.header w) (held r.header w) (same_sum a.args.r r w e.1 e.2) c.in-Failed.is e.0 failed,
       same_known a.args.r r w e.1 e.2 a.requires.3,
     )
 
-returns-5 : tie.Need-returns-5
+returns-5 : tie.Need-returns-in-Cut
 returns-5 c =
-    let a = c.before.before.before.before.before.before.before in
+    let a = c in
     let w = a.args.store.now in
-    let r = c.ended4.result in
-    let e = c.ended4.ensures in (
-      nothing_read LineRan (held a.args.r.header w) (held r.header w) (same_sum a.args.r r w e.1 e.2) c.before.enum-told5.given.1 e.0 cut,
+    let r = c.ended-in-Cut.result in
+    let e = c.ended-in-Cut.ensures in (
+      nothing_read LineRan (held a.args.r.header w) (held r.header w) (same_sum a.args.r r w e.1 e.2) c.in-Cut.is e.0 cut,
       same_known a.args.r r w e.1 e.2 a.requires.3,
     )
 
-pub run-found-spec : {M : Type 1} → statement M
-run-found-spec =
-    tie.close
-    (tie.spec
+pub run_found_spec : {M : Type 1} → statement M
+run_found_spec = tie.close (tie.spec
     enum_told
     sub-run-item
     part-run-item-start

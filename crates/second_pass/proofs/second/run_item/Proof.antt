@@ -9,100 +9,98 @@ use Rattle.second_pass.proofs.Lines.{same_sum, same_known, line-ran, calls-nothi
 use Rattle.second_pass.proofs.second.run_item.Statement.{statement}
 use Rattle.second_pass.proofs.second.run_item.Tie as tie
 
-parse-requires : tie.Need-parse-requires
+parse-requires : tie.Need-parse-l-requires
 parse-requires c κs = search rules
 
-enum_told : tie.Need-enum-told
+enum_told : tie.Need-enum_told-1
 enum_told c = search rules
 
-enum-known-item : tie.Need-enum-known-item
+enum-known-item : tie.Need-enum_known-item
 enum-known-item c = search rules
 
 ended-requires : tie.Need-ended-requires
 ended-requires c κs = search rules
 
-enum-known-item-2 : tie.Need-enum-known-item-2
+enum-known-item-2 : tie.Need-enum_known-item-in-Call-1
 enum-known-item-2 c = search rules
 
-run-targets-requires : tie.Need-run-targets-requires
+run-targets-requires : tie.Need-run_targets-requires
 run-targets-requires c κs = search rules
 
-enum-known-item-3 : tie.Need-enum-known-item-3
+enum-known-item-3 : tie.Need-enum_known-item-in-Repeat-1
 enum-known-item-3 c = search rules
 
 opened-requires : tie.Need-opened-requires
 opened-requires c κs = search rules
 
-with-pass-requires : tie.Need-with-pass-requires
+with-pass-requires : tie.Need-with_pass-requires
 with-pass-requires c κs = search rules
 
-enum-told-2 : tie.Need-enum-told-2
+enum-told-2 : tie.Need-enum_told-in-Close
 enum-told-2 c = search rules
 
 closed-requires : tie.Need-closed-requires
 closed-requires c κs = search rules
 
-with-pass-requires-2 : tie.Need-with-pass-requires-2
+with-pass-requires-2 : tie.Need-with_pass-requires-in-Close
 with-pass-requires-2 c κs = search rules
 
-returns : tie.Need-returns
+returns : tie.Need-returns-in-Nothing
 unfolding calls_for
 returns c =
-    let l = c.before.before.before.parse in
-    let a = c.before.before.before.before.before.before in
-    (calls-nothing a.args.line.now l.result l.ensures.1 c.enum_told.given.1 refl refl (subst (Stands _) (sym a.requires.0) nothing), a.requires.1)
+    let l = c.parse-l in
+    let a = c in
+    (calls-nothing a.args.line.now l.result l.ensures.1 c.in-Nothing.is refl refl (subst (Stands _) (sym a.requires.0) nothing), a.requires.1)
 
-returns-2 : tie.Need-returns-2
+returns-2 : tie.Need-returns-in-Bad
 unfolding calls_for
 returns-2 c =
-    let l = c.before.before.before.before.before.parse in
-    let a = c.before.before.before.before.before.before.before.before in
+    let l = c.parse-l in
+    let a = c in
     let r = c.ended.result in
     let e = c.ended.ensures in (
-      calls-nothing a.args.line.now l.result l.ensures.1 c.before.before.item.given.1 refl (same_sum a.args.r r a.args.store.now e.1 e.2) (subst (Stands _) (sym e.0) bad),
+      calls-nothing a.args.line.now l.result l.ensures.1 c.in-Bad.is refl (same_sum a.args.r r a.args.store.now e.1 e.2) (subst (Stands _) (sym e.0) bad),
       same_known a.args.r r a.args.store.now e.1 e.2 a.requires.1,
     )
 
-same_length : tie.Need-same-length
+same_length : tie.Need-shape_of-store
 same_length c = search rules
 
-returns-3 : tie.Need-returns-3
+returns-3 : tie.Need-returns-in-Call
 unfolding calls_for
 returns-3 c =
-    let l = c.before.before.before.before.before.before.before.before.parse in
-    let s = c.before.before.before.before.before.item2.given in
-    let t = c.before.before.run-targets in
-    let a = c.before.before.before.before.before.before.before.before.before.before.before.args in
-    (line-ran a.line.now l.result l.ensures.1 s.1 (instruction {cs = calls_of s.0.0 l.result.rates a.line.now l.result.targets} t.ensures.0), t.ensures.1)
+    let l = c.parse-l in
+    let s = c.in-Call in
+    let t = c.run_targets in
+    let a = c.args in
+    (line-ran a.line.now l.result l.ensures.1 s.is (instruction {cs = calls_of s.act l.result.rates a.line.now l.result.targets} t.ensures.0), t.ensures.1)
 
-returns-4 : tie.Need-returns-4
+returns-4 : tie.Need-returns-in-Repeat
 unfolding calls_for
 returns-4 c =
-    let l = c.before.before.before.before.before.before.before.parse in
-    let a = c.before.before.before.before.before.before.before.before.before.before in
-    let r = c.with-pass.result in
-    let e = c.with-pass.ensures in (
-      calls-nothing a.args.line.now l.result l.ensures.1 c.before.before.before.before.item3.given.1 refl (same_sum a.args.r r a.args.store.now e.1 e.2)
-          (subst (Stands _) (sym (ap (λ (p : Pass). p.outcome) e.0)) c.before.opened.ensures),
+    let l = c.parse-l in
+    let a = c in
+    let r = c.with_pass.result in
+    let e = c.with_pass.ensures in (
+      calls-nothing a.args.line.now l.result l.ensures.1 c.in-Repeat.is refl (same_sum a.args.r r a.args.store.now e.1 e.2)
+          (subst (Stands _) (sym (ap (λ (p : Pass). p.outcome) e.0)) c.opened.ensures),
       same_known a.args.r r a.args.store.now e.1 e.2 a.requires.1,
     )
 
-returns-5 : tie.Need-returns-5
+returns-5 : tie.Need-returns-in-Close
 unfolding calls_for
 returns-5 c =
-    let l = c.before.before.before.before.before.before.parse in
-    let a = c.before.before.before.before.before.before.before.before.before in
-    let r = c.with-pass2.result in
-    let e = c.with-pass2.ensures in (
-      calls-nothing a.args.line.now l.result l.ensures.1 c.before.before.before.enum-told2.given.1 refl (same_sum a.args.r r a.args.store.now e.1 e.2)
-          (subst (Stands _) (sym (ap (λ (p : Pass). p.outcome) e.0)) c.before.closed.ensures),
+    let l = c.parse-l in
+    let a = c in
+    let r = c.with_pass-in-Close.result in
+    let e = c.with_pass-in-Close.ensures in (
+      calls-nothing a.args.line.now l.result l.ensures.1 c.in-Close.is refl (same_sum a.args.r r a.args.store.now e.1 e.2)
+          (subst (Stands _) (sym (ap (λ (p : Pass). p.outcome) e.0)) c.closed.ensures),
       same_known a.args.r r a.args.store.now e.1 e.2 a.requires.1,
     )
 
-pub run-item-spec : {M : Type 1} → statement M
-run-item-spec =
-    tie.close
-    (tie.spec
+pub run_item_spec : {M : Type 1} → statement M
+run_item_spec = tie.close (tie.spec
     parse-requires
     enum_told
     enum-known-item

@@ -11,11 +11,15 @@ added-requires c κs = search rules
 ended-requires : tie.Need-ended-requires
 ended-requires c κs = search rules
 
-returns : tie.Need-returns
+returns : tie.Need-returns-then-most-lost
 returns c = let e = c.ended.ensures in (subst (After 0) (sym e.0) (too_much_lost refl), e.1, e.2)
 
-returns-2 : tie.Need-returns-2
-returns-2 c = (subst (After 0) (sym c.before.before.before.before.requires) (goes_on_after refl), refl, refl)
+returns-2 : tie.Need-returns
+returns-2 c = (subst (After 0) (sym c.requires) (goes_on_after refl), refl, refl)
 
-pub with-totals-spec : {M : Type 1} → statement M
-with-totals-spec = tie.close (tie.spec added-requires ended-requires returns returns-2)
+pub with_totals_spec : {M : Type 1} → statement M
+with_totals_spec = tie.close (tie.spec
+    added-requires
+    ended-requires
+    returns
+    returns-2)

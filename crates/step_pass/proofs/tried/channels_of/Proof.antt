@@ -9,61 +9,59 @@ use Rattle.step_pass.proofs.Mapped.{mapped_next, mapped_end}
 use Rattle.step_pass.proofs.tried.channels_of.Statement.{statement}
 use Rattle.step_pass.proofs.tried.channels_of.Tie as tie
 
-abbrev invariant-loop : tie.invariant-loop
-invariant-loop steps channels₀ i₀ channels i =
+abbrev invariant-loop-i : tie.invariant-loop-i
+invariant-loop-i steps channels₀ i₀ channels i =
     (i ≤ 64) × (length channels ≡ 64) × (take i channels ≡ map (λ s. s.channel) (take i steps))
 
-abbrev decreases-loop : tie.decreases-loop
-decreases-loop steps channels₀ i₀ channels i = 64 - i
+abbrev decreases-loop-i : tie.decreases-loop-i
+decreases-loop-i steps channels₀ i₀ channels i = 64 - i
 
 -- there are 64 steps
-long : (c : tie.Start invariant-loop decreases-loop) → length c.args.t1 ≡ 64
-long c = c.well-formed.0.1.0.1
+long : (c : tie.Start invariant-loop-i decreases-loop-i) → length c.args.steps ≡ 64
+long c = c.well_formed.0.1.0.1
 
-loop-holds : tie.Need-loop-init invariant-loop decreases-loop
+loop-holds : tie.Need-loop-i-init invariant-loop-i decreases-loop-i
 loop-holds c = (omega arith, refl, refl)
 
-mul-step : tie.Need-overflow-mul-step invariant-loop decreases-loop
+mul-step : tie.Need-offset_bounds-steps-i invariant-loop-i decreases-loop-i
 mul-step c = search rules
 
-array-copy-out-step : tie.Need-array-copy-out-step invariant-loop decreases-loop
+array-copy-out-step : tie.Need-bounds-steps-i invariant-loop-i decreases-loop-i
 array-copy-out-step c = search rules
 
-mul-channels : tie.Need-overflow-mul-channels invariant-loop decreases-loop
+mul-channels : tie.Need-offset_bounds-channels-i invariant-loop-i decreases-loop-i
 mul-channels c = search rules
 
-array-set-from-channels : tie.Need-array-set-from-channels invariant-loop decreases-loop
+array-set-from-channels : tie.Need-bounds-channels-i invariant-loop-i decreases-loop-i
 array-set-from-channels c = search rules
 
-add-i : tie.Need-overflow-add-i invariant-loop decreases-loop
+add-i : tie.Need-overflow_add-i invariant-loop-i decreases-loop-i
 add-i c = search rules
 
-loop-less : tie.Need-loop-smaller invariant-loop decreases-loop
+loop-less : tie.Need-loop-i-smaller invariant-loop-i decreases-loop-i
 loop-less c = search rules
 
-loop-again : tie.Need-loop-preserved invariant-loop decreases-loop
+loop-again : tie.Need-loop-i-preserved invariant-loop-i decreases-loop-i
 loop-again c =
-    let l = c.before.before in
-    let h = c.before.loop-test.true in
-    let i = l.loop.invariant in (
+    let l = c in
+    let h = c.loop-i-test.true in
+    let i = l.loop-i.invariant in (
       omega (arith, h),
-      length-set l.loop.channels l.loop.i _ ∙ i.1,
-      mapped_next (λ s. s.channel) l.before.args.t1 l.loop.channels l.loop.i _ (omega (arith, h, i.1)) (omega (arith, h, long l.before)) i.2,
+      length-set l.loop-i.channels l.loop-i.i _ ∙ i.1,
+      mapped_next (λ s. s.channel) l.args.steps l.loop-i.channels l.loop-i.i _ (omega (arith, h, i.1)) (omega (arith, h, long l.before.before.before)) i.2,
     )
 
-returns : tie.Need-returns invariant-loop decreases-loop
+returns : tie.Need-returns invariant-loop-i decreases-loop-i
 returns c =
-    let l = c.before in
-    let i = l.loop.invariant in
-    let e = c.loop-test.false in
-    mapped_end (λ s. s.channel) l.before.args.t1 l.loop.channels l.loop.i (omega (arith, e, i.1)) (omega (arith, e, long l.before)) i.2
+    let l = c in
+    let i = l.loop-i.invariant in
+    let e = c.loop-i-test.false in
+    mapped_end (λ s. s.channel) l.args.steps l.loop-i.channels l.loop-i.i (omega (arith, e, i.1)) (omega (arith, e, long l.before.before)) i.2
 
-pub channels-of-spec : {M : Type 1} → statement M
-channels-of-spec =
-    tie.close
-    (tie.spec
-    invariant-loop
-    decreases-loop
+pub channels_of_spec : {M : Type 1} → statement M
+channels_of_spec = tie.close (tie.spec
+    invariant-loop-i
+    decreases-loop-i
     loop-holds
     mul-step
     array-copy-out-step

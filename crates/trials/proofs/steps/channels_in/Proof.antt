@@ -9,89 +9,87 @@ use Rattle.trials.proofs.Slices.{put-behind, channels-length, channels-at}
 use Rattle.trials.proofs.steps.channels_in.Statement.{statement}
 use Rattle.trials.proofs.steps.channels_in.Tie as tie
 
-abbrev invariant-loop : tie.invariant-loop
-invariant-loop kinds rates count all₀ i₀ all i = (i ≤ count) × (length all ≡ 64) × (take i all ≡ take i (channels_in kinds rates))
+abbrev invariant-loop-i : tie.invariant-loop-i
+invariant-loop-i kinds rates count all₀ i₀ all i = (i ≤ count) × (length all ≡ 64) × (take i all ≡ take i (channels_in kinds rates))
 
-abbrev decreases-loop : tie.decreases-loop
-decreases-loop kinds rates count all₀ i₀ all i = count - i
+abbrev decreases-loop-i : tie.decreases-loop-i
+decreases-loop-i kinds rates count all₀ i₀ all i = count - i
 
-loop-holds : tie.Need-loop-init invariant-loop decreases-loop
+loop-holds : tie.Need-loop-i-init invariant-loop-i decreases-loop-i
 loop-holds c = (omega arith, refl, refl)
 
-mul_at : tie.Need-overflow-mul-at invariant-loop decreases-loop
+mul_at : tie.Need-overflow_mul-at invariant-loop-i decreases-loop-i
 mul_at c = search rules
 
-mul-channel-of : tie.Need-overflow-mul-channel-of invariant-loop decreases-loop
+mul-channel-of : tie.Need-offset_bounds-kinds-i invariant-loop-i decreases-loop-i
 mul-channel-of c = search rules
 
-shared-slice-read-channel-of : tie.Need-shared-slice-read-channel-of invariant-loop decreases-loop
+shared-slice-read-channel-of : tie.Need-bounds-kinds-i invariant-loop-i decreases-loop-i
 shared-slice-read-channel-of c = search rules
 
-mul-channel-of-2 : tie.Need-overflow-mul-channel-of-2 invariant-loop decreases-loop
+mul-channel-of-2 : tie.Need-offset_bounds-rates-at invariant-loop-i decreases-loop-i
 mul-channel-of-2 c = search rules
 
-shared-slice-read-channel-of-2 : tie.Need-shared-slice-read-channel-of-2 invariant-loop decreases-loop
+shared-slice-read-channel-of-2 : tie.Need-bounds-rates-at invariant-loop-i decreases-loop-i
 shared-slice-read-channel-of-2 c = search rules
 
-add-channel-of : tie.Need-overflow-add-channel-of invariant-loop decreases-loop
+add-channel-of : tie.Need-overflow_add-at invariant-loop-i decreases-loop-i
 add-channel-of c = search rules
 
-mul-channel-of-3 : tie.Need-overflow-mul-channel-of-3 invariant-loop decreases-loop
+mul-channel-of-3 : tie.Need-offset_bounds-rates-at-in-loop-i invariant-loop-i decreases-loop-i
 mul-channel-of-3 c = search rules
 
-shared-slice-read-channel-of-3 : tie.Need-shared-slice-read-channel-of-3 invariant-loop decreases-loop
+shared-slice-read-channel-of-3 : tie.Need-bounds-rates-at-in-loop-i invariant-loop-i decreases-loop-i
 shared-slice-read-channel-of-3 c = search rules
 
-add-channel-of-2 : tie.Need-overflow-add-channel-of-2 invariant-loop decreases-loop
+add-channel-of-2 : tie.Need-overflow_add-at-in-loop-i invariant-loop-i decreases-loop-i
 add-channel-of-2 c = search rules
 
-mul-channel-of-4 : tie.Need-overflow-mul-channel-of-4 invariant-loop decreases-loop
+mul-channel-of-4 : tie.Need-offset_bounds-rates-at-in-loop-i-2 invariant-loop-i decreases-loop-i
 mul-channel-of-4 c = search rules
 
-shared-slice-read-channel-of-4 : tie.Need-shared-slice-read-channel-of-4 invariant-loop decreases-loop
+shared-slice-read-channel-of-4 : tie.Need-bounds-rates-at-in-loop-i-2 invariant-loop-i decreases-loop-i
 shared-slice-read-channel-of-4 c = search rules
 
-channel-of-requires : tie.Need-channel-of-requires invariant-loop decreases-loop
+channel-of-requires : tie.Need-channel_of-requires invariant-loop-i decreases-loop-i
 channel-of-requires c κs = search rules
 
-mul-all : tie.Need-overflow-mul-all invariant-loop decreases-loop
+mul-all : tie.Need-offset_bounds-all-i invariant-loop-i decreases-loop-i
 mul-all c = search rules
 
-array-set-from-all : tie.Need-array-set-from-all invariant-loop decreases-loop
+array-set-from-all : tie.Need-bounds-all-i invariant-loop-i decreases-loop-i
 array-set-from-all c = search rules
 
-add-i : tie.Need-overflow-add-i invariant-loop decreases-loop
+add-i : tie.Need-overflow_add-i invariant-loop-i decreases-loop-i
 add-i c = search rules
 
-loop-less : tie.Need-loop-smaller invariant-loop decreases-loop
+loop-less : tie.Need-loop-i-smaller invariant-loop-i decreases-loop-i
 loop-less c = search rules
 
-loop-again : tie.Need-loop-preserved invariant-loop decreases-loop
+loop-again : tie.Need-loop-i-preserved invariant-loop-i decreases-loop-i
 loop-again c =
-    let l = c.before.before.before.before.before.before.loop in
-    let s = c.before.before.before.before.before.before.before.before.before in
+    let l = c.loop-i in
+    let s = c in
     let kinds = s.args.kinds.now in
     let rates = s.args.rates.now in
-    let h = c.before.before.before.before.before.loop-test.true in (
+    let h = c.loop-i-test.true in (
       omega (arith, h),
       length-set l.all l.i _ ∙ l.invariant.1,
-      put-behind l.all (channels_in kinds rates) l.i _ c.channel-of.result (omega (arith, h, l.invariant.1, s.requires.0)) (omega (arith, h, s.requires.1, channels-length kinds rates s.requires.2))
-          (c.channel-of.ensures ∙ channels-at kinds rates l.i _ s.requires.2 (omega (arith, h, s.requires.1))) l.invariant.2,
+      put-behind l.all (channels_in kinds rates) l.i _ c.channel_of.result (omega (arith, h, l.invariant.1, s.requires.0)) (omega (arith, h, s.requires.1, channels-length kinds rates s.requires.2))
+          (c.channel_of.ensures ∙ channels-at kinds rates l.i _ s.requires.2 (omega (arith, h, s.requires.1))) l.invariant.2,
     )
 
-returns : tie.Need-returns invariant-loop decreases-loop
+returns : tie.Need-returns invariant-loop-i decreases-loop-i
 returns c =
-    let l = c.before.loop in
-    let a = c.before.before.before.before.args in
-    let e : a.count ≡ l.i = omega (arith, c.loop-test.false, l.invariant.0) in
+    let l = c.loop-i in
+    let a = c.args in
+    let e : a.count ≡ l.i = omega (arith, c.loop-i-test.false, l.invariant.0) in
     ap (λ (n : ℕ). take n l.all) e ∙ l.invariant.2 ∙ sym (ap (λ (n : ℕ). take n (channels_in a.kinds.now a.rates.now)) e)
 
-pub channels-in-spec : {M : Type 1} → statement M
-channels-in-spec =
-    tie.close
-    (tie.spec
-    invariant-loop
-    decreases-loop
+pub channels_in_spec : {M : Type 1} → statement M
+channels_in_spec = tie.close (tie.spec
+    invariant-loop-i
+    decreases-loop-i
     loop-holds
     mul_at
     mul-channel-of

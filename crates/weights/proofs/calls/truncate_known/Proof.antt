@@ -16,59 +16,57 @@ use Rattle.weights.proofs.calls.truncate_known.Statement.{statement}
 use Rattle.weights.proofs.calls.truncate_known.Tie as tie
 
 -- the sum as it is given
-abbrev given : tie.After-front → Lent
-given c = let b = c.before.before.before in held b.args.h b.args.store.now
+abbrev given : tie.After-front-number → Lent
+given c = let b = c in held b.args.h b.args.store.now
 
 -- what it gives, and what is known then
-abbrev steps : (f : tie.After-front) (r : Answer) (w : List ℕ) → gave r w ≡ step Calls.truncate (given f) → Stepped Calls.truncate f.before.before.before.args.known (given f) r w
-steps f r w e = stepped Calls.truncate f.before.before.before.args.known (given f) r w f.before.before.before.requires e
+abbrev steps : (f : tie.After-front-number) (r : Answer) (w : List ℕ) → gave r w ≡ step Calls.truncate (given f) → Stepped Calls.truncate f.args.known (given f) r w
+steps f r w e = stepped Calls.truncate f.args.known (given f) r w f.requires e
 
-passed : (c : tie.Else1) → front 0 (given c.before) ≡ 0
-passed c = sym c.before.front.ensures ∙ c.if1.false
+passed : (c : tie.Else-number-ne0) → front 0 (given c.before) ≡ 0
+passed c = sym c.front-number.ensures ∙ c.if-number-ne0.false
 
-front-requires : tie.Need-front-requires
+front-requires : tie.Need-front-number-requires
 front-requires c κs = search rules
 
-plain-answer-requires : tie.Need-plain-answer-requires
+plain-answer-requires : tie.Need-plain_answer-requires
 plain-answer-requires c κs = search rules
 
-same_length : tie.Need-same-length
+same_length : tie.Need-shape_of-store-then-number-ne0
 same_length c = search rules
 
-returns : tie.Need-returns
+returns : tie.Need-returns-then-number-ne0
 returns c =
-    let f = c.before.before in
-    steps f _ _ (refusal (given f) _ c.plain-answer.ensures (front-refuses Calls.truncate (given f) 0 _ (truncate-own (given f)) f.front.ensures c.before.if1.true))
+    let f = c in
+    steps f.before.before _ _ (refusal (given f.before.before) _ c.plain_answer.ensures (front-refuses Calls.truncate (given f.before.before) 0 _ (truncate-own (given f.before.before)) f.front-number.ensures c.if-number-ne0.true))
 
-truncate-entries-requires : tie.Need-truncate-entries-requires
+truncate-entries-requires : tie.Need-truncate_entries-cut-requires
 truncate-entries-requires c κs =
-    let e = c.before.before in
-    let x = given e.before in
-    ((front-sound x 0 (passed e)).packed, front-cutoff x 0 (passed e))
+    let e = c in
+    let x = given e.before.before.before in
+    ((front-sound x 0 (passed e.before.before)).packed, front-cutoff x 0 (passed e.before.before))
 
-header-with-requires : tie.Need-header-with-requires
+header-with-requires : tie.Need-header_with-requires
 header-with-requires c κs = search rules
 
-without-counts-requires : tie.Need-without-counts-requires
+without-counts-requires : tie.Need-without_counts-requires
 without-counts-requires c κs = search rules
 
-same-length-2 : tie.Need-same-length-2
+same-length-2 : tie.Need-shape_of-store
 same-length-2 c = search rules
 
-returns-2 : tie.Need-returns-2
+returns-2 : tie.Need-returns
 returns-2 c =
-    let t = c.before.before.before.before in
-    let e = t.before.before.before in
-    let f = e.before in
-    let x = given f in
-    steps f _ _
-    (ap (λ (a : Answer). gave a t.truncate-entries.new.0) (c.without-counts.ensures ∙ ap (λ (h : Header). answer_of 0 h no_counts (cut_loss t.truncate-entries.result.taken) 0 0) c.before.header-with.ensures)
-    ∙ sym (front-passes Calls.truncate x 0 _ (truncate-own x) f.front.ensures e.if1.false ∙ truncate-0 x t.truncate-entries.ensures))
+    let t = c in
+    let e = t in
+    let f = e in
+    let x = given f.before.before.before.before.before.before.before.before in
+    steps f.before.before.before.before.before.before.before.before _ _
+    (ap (λ (a : Answer). gave a t.truncate_entries-cut.new.store) (c.without_counts.ensures ∙ ap (λ (h : Header). answer_of 0 h no_counts (cut_loss t.truncate_entries-cut.result.taken) 0 0) c.header_with.ensures)
+    ∙ sym (front-passes Calls.truncate x 0 _ (truncate-own x) f.front-number.ensures e.if-number-ne0.false ∙ truncate-0 x t.truncate_entries-cut.ensures))
 
-pub truncate-known-spec : {M : Type 1} → statement M
-truncate-known-spec =
-    tie.close
-    (tie.spec
+pub truncate_known_spec : {M : Type 1} → statement M
+truncate_known_spec = tie.close (tie.spec
     front-requires
     plain-answer-requires
     same_length

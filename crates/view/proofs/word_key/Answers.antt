@@ -1,0 +1,7 @@
+-- `view::word_key` meets its contract: the word stands at its place in the entry. Assumes nothing.
+use Rattle.model.specs.Entries.{entry_of}
+use Rattle.view.proofs.word_key.Goals as goal
+
+pub returns : goal.returns
+unfolding entry_of
+returns c = c.word_at.ensures
