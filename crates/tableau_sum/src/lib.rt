@@ -1,5 +1,5 @@
 // The calls of document 01, and the page and the trials of document 02, for programs in C and Rust, one by one or a list of them at once: what
-// `rt staticlib tableau_sum` puts into libtableau_sum.a. Each function makes one call of another crate and promises what that promises. A slice
+// `rt lib` puts into libtableau_sum.a. Each function makes one call of another crate and promises what that promises. A slice
 // is passed as a pointer and a length, the structs as C lays them out; a call takes its header and store first, then qubits, then rates. After
 // each call, the numbers it can give besides 0.
 #![tactic(auto)]
