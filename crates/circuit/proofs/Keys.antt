@@ -10,7 +10,6 @@ use types.Run.{OneOf, miss}
 use borrow.Author.Tests.{ne_eqb}
 use Rattle.circuit.specs.Lines.{order, is_name}
 use Rattle.circuit.specs.declared.lines.Name.{Name}
-use Rattle.circuit.specs.declared.lines.Name.TheVariants as Name
 use Rattle.circuit.specs.contracts.lines.Name.{the_type}
 
 order_is : (n : Name) → order n ≡ tag_of the_type n

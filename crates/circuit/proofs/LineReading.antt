@@ -18,11 +18,8 @@ use Rattle.circuit.specs.Runs.{is_of, run_end, is_end, is_word_end, is_at}
 use Rattle.circuit.specs.declared.Tag.{Tag}
 use Rattle.circuit.specs.declared.arguments.Arguments.{Arguments}
 use Rattle.circuit.specs.declared.lines.Fault.{Fault}
-use Rattle.circuit.specs.declared.lines.Fault.TheVariants as Fault
 use Rattle.circuit.specs.declared.lines.Item.{Item}
-use Rattle.circuit.specs.declared.lines.Item.TheVariants as Item
 use Rattle.circuit.specs.declared.lines.Name.{Name}
-use Rattle.circuit.specs.declared.lines.Name.TheVariants as Name
 use Rattle.circuit.specs.declared.lines.Verdict.{Verdict}
 use Rattle.circuit.specs.declared.lines.Verdict.TheVariants.{Sound, Bad}
 use Rattle.circuit.specs.declared.numbers.Count.{Count}

@@ -6,7 +6,6 @@ use Rattle.circuit.specs.Runs.{is_of, run_end, is_end, is_at}
 use Rattle.circuit.specs.declared.arguments.Argument.{Argument}
 use Rattle.circuit.specs.declared.arguments.Arguments.{Arguments}
 use Rattle.circuit.specs.declared.lines.Fault.{Fault}
-use Rattle.circuit.specs.declared.lines.Fault.TheVariants as Fault
 use Rattle.circuit.specs.declared.lines.Verdict.{Verdict}
 use Rattle.circuit.specs.declared.lines.Verdict.TheVariants.{Sound, Bad}
 use Rattle.circuit.specs.declared.numbers.Number.{Number}

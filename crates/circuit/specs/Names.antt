@@ -5,9 +5,7 @@ use Rattle.std.specs.Float.{nan}
 use Rattle.model.specs.Floats.{float, zero_bits}
 use Rattle.model.specs.declared.Channel.TheVariants.{Pauli, Loss, Depolarizing}
 use Rattle.circuit.specs.declared.lines.Name.{Name}
-use Rattle.circuit.specs.declared.lines.Name.TheVariants as Name
 use Rattle.circuit.specs.declared.lines.Act.{Act}
-use Rattle.circuit.specs.declared.lines.Act.TheVariants as Act
 use Rattle.circuit.specs.declared.lines.Item.{Item}
 use Rattle.circuit.specs.declared.lines.Item.TheVariants.{Nothing, Call}
 

@@ -319,7 +319,7 @@ fn text_room() -> [u8; TEXT_BYTES] {
 }
 
 fn main() {
-    let mut given = [0u8; 524_288];
+    let mut given = test_support::room();
     let mut store = [0u64; STORE_WORDS];
     let mut text = text_room();
     let n = io::read_full(STDIN_FILENO, &mut given);

@@ -1,5 +1,10 @@
 // Items of decimal numbers: a kind, how many values follow, and these.
 
+// Room for what is given.
+pub fn room() -> [u8; 524_288] {
+    [0u8; 524_288]
+}
+
 // A number, and the place behind it.
 #[derive(Clone, Copy)]
 pub struct Number {

@@ -6,7 +6,7 @@ use streams::STDOUT_FILENO;
 mod given;
 mod large;
 
-pub use given::{put_word, read_calls, read_item, skip};
+pub use given::{put_word, read_calls, read_item, room, skip};
 pub use large::lay_large;
 
 // As crates/perform has them: the words of a call, the numbers of its record, what a table or a view shows behind these, and the most

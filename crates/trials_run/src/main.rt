@@ -426,7 +426,7 @@ fn run_given(given: &[u8]) {
 }
 
 fn main() {
-    let mut given = [0u8; 524_288];
+    let mut given = test_support::room();
     let n = io::read_full(STDIN_FILENO, &mut given);
     run_given(&given[0..n]);
 }

@@ -5,10 +5,6 @@ use Rattle.changes.proofs.ChangeTables.{masks-fewer, low-few, table_is}
 use borrow.Author.Rules.{rules}
 use Rattle.changes.proofs.change_table.Statement.{statement}
 use Rattle.changes.proofs.change_table.Tie as tie
-use Rattle.changes.proofs.change_table.Reads as reads
-use Rattle.changes.proofs.change_table.Lts as lts
-use Rattle.changes.proofs.low_rows.Reads as low-rows-reads
-use Rattle.changes.proofs.walk_rows.Reads as walk-rows-reads
 
 low-rows-requires : tie.Need-low_rows-middle-requires
 low-rows-requires c κs = search rules

@@ -12,11 +12,6 @@ use Rattle.changes.proofs.ChangeTables.{sum-down}
 use Rattle.changes.proofs.Packed.{packed_none, packed-room, packed-down}
 use Rattle.changes.proofs.walk_rows.Statement.{statement}
 use Rattle.changes.proofs.walk_rows.Tie as tie
-use Rattle.changes.proofs.walk_rows.Reads as reads
-use Rattle.changes.proofs.walk_rows.Lts as lts
-use Rattle.changes.proofs.times_bit.Reads as times-bit-reads
-use Rattle.changes.proofs.x_bit.Reads as x-bit-reads
-use Rattle.changes.proofs.z_bit.Reads as z-bit-reads
 
 abbrev invariant-loop-i : tie.invariant-loop-i
 invariant-loop-i masks rows q from to x₀ z₀ xs₀ zs₀ i₀ x z xs zs i =

@@ -4,7 +4,6 @@ use mathlib.Core.List.{[], ◌∷◌}
 use borrow.Author.Rules.{rules}
 use Rattle.circuit.specs.Lines.{is_name}
 use Rattle.circuit.specs.declared.lines.Name.{Name}
-use Rattle.circuit.specs.declared.lines.Name.TheVariants as Name
 use Rattle.circuit.proofs.Keys.{not-name}
 use Rattle.circuit.proofs.is_tick.Statement.{statement}
 use Rattle.circuit.proofs.is_tick.Tie as tie

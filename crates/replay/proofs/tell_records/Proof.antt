@@ -7,10 +7,10 @@ use Rattle.replay.proofs.tell_records.Statement.{statement}
 use Rattle.replay.proofs.tell_records.Tie as tie
 
 abbrev invariant-loop-i : tie.invariant-loop-i
-invariant-loop-i log len count at₀ i₀ t7 at i = (i ≤ count) × (at ≤ length log)
+invariant-loop-i log len count at₀ i₀ at i = (i ≤ count) × (at ≤ length log)
 
 abbrev decreases-loop-i : tie.decreases-loop-i
-decreases-loop-i log len count at₀ i₀ t7 at i = count - i
+decreases-loop-i log len count at₀ i₀ at i = count - i
 
 loop-holds : tie.Need-loop-i-init invariant-loop-i decreases-loop-i
 loop-holds c = search rules

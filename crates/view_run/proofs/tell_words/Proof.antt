@@ -5,10 +5,10 @@ use Rattle.view_run.proofs.tell_words.Statement.{statement}
 use Rattle.view_run.proofs.tell_words.Tie as tie
 
 abbrev invariant-loop-i : tie.invariant-loop-i
-invariant-loop-i h store place i₀ t6 i = 0 ≤ i
+invariant-loop-i h store place i₀ i = 0 ≤ i
 
 abbrev decreases-loop-i : tie.decreases-loop-i
-decreases-loop-i h store place i₀ t6 i = 24 - i
+decreases-loop-i h store place i₀ i = 24 - i
 
 text-requires : tie.Need-text-requires invariant-loop-i decreases-loop-i
 text-requires c κs = search rules

@@ -1,3 +1,0 @@
-pub mod Viewing
-pub mod Looking
-pub mod LookingAt
