@@ -1,23 +1,15 @@
 -- `spread::merge_parents` meets its contract. Assumes nothing.
 use mathlib.Core.Path.{◌≡◌, refl, sym, ap, ◌∙◌}
-use mathlib.Core.List.{[]}
-use Prim.Native.Nat.{ℕ, ◌≤◌, ◌<◌, ◌+◌, ◌*◌, ◌-◌}
+use Prim.Native.Nat.{ℕ, ◌≤◌, ◌<◌, ◌+◌, ◌*◌}
 use native.Mathlib.Omega.{arith}
 use lib.ListN.{length}
-use Rattle.model.specs.Keys.{usual_salts}
 use Rattle.model.specs.Entries.{entry_len, entry_of, stretch}
 use Rattle.model.proofs.Entries.{loss-word}
 use Rattle.model.proofs.Groups.{stride-le}
 use Rattle.entries.proofs.Slots.{limits, slot-end}
-use Rattle.changes.specs.Changes.{SignMasks}
-use Rattle.changes.specs.Tables.{walked_rows}
 use Rattle.changes.proofs.Tables.{few-walked}
-use Rattle.seeking.specs.Noted.{seen_at, Noted}
-use Rattle.merging.specs.Progress.{Went, started}
-use Rattle.spread.specs.Branches.{TablesOf, TablesUpTo, live_at, branches_up_to}
+use Rattle.spread.specs.Branches.{TablesOf, TablesUpTo, live_at}
 use Rattle.spread.proofs.Parents.{none_done, parent-done, parent-lost, few-so-far, same_count, still-there, inside, lies-before, made-here, up-to-next, shared-tables, tables-now, tables_then}
-use borrow.Author.Rules.{rules}
-use borrow.Author.Tests.{not-false}
 use Rattle.model.specs.declared.Size.{Size}
 use Rattle.model.specs.Sound.{Sized}
 use Rattle.spread.proofs.merge_parents.Goals.{then-is_live, else-is_live, then-not-same_at, else-not-same_at}
