@@ -1,9 +1,9 @@
 -- `step_pass::with_step` meets its contract: the step stands behind those that there were, or there are 64. Assumes nothing.
-use mathlib.Core.Path.{◌≡◌, sym, subst, ◌∙◌}
+use mathlib.Core.Path.{◌≡◌, sym, subst}
 use mathlib.Core.List.{List, [], ◌∷◌}
 use borrow.Author.Rules.{rules}
 use native.Mathlib.Omega.{arith}
-use lib.ListN.{length, length-map}
+use lib.ListN.{length}
 use Rattle.model.specs.Trials.{max_steps}
 use Rattle.model.specs.Calls.{Call}
 use Rattle.passes.specs.declared.Outcome.TheVariants as Outcome
@@ -14,7 +14,7 @@ use Rattle.step_pass.proofs.with_step.Tie as tie
 
 -- there is room for 64 steps
 long : (c : tie.Start) → length c.args.g.steps ≡ max_steps
-long c = sym (length-map c.args.g.steps _) ∙ c.well_formed.0.1.1.1.1.0.1.0.1
+long c = c.well_formed.0.1.1.1.1.0.1.0.1
 
 mul-steps : tie.Need-offset_bounds-steps-count
 mul-steps c = search rules

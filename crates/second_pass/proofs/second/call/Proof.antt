@@ -57,7 +57,7 @@ same_length c = search rules
 
 returns : tie.Need-returns-then-a-ne0
 returns c =
-    let w = c in
+    let w = c.before.before.before.before in
     let r = c.ended.result in
     let e = c.ended.ensures in
     (is w r e.1 e.2, (stands w r e.1 e.2 (subst (After _) (sym e.0) (refused c.if-a-ne0.true)), known w r e.1 e.2))
@@ -70,7 +70,7 @@ same-length-2 c = search rules
 
 returns-2 : tie.Need-returns-then-not-written
 returns-2 c =
-    let w = c in
+    let w = c.before.before.before.before.before in
     let r = c.ended-then-not-written.result in
     let e = c.ended-then-not-written.ensures in
     (is w r e.1 e.2, (stands w r e.1 e.2 (subst (After _) (sym e.0) (unwritten c.if-a-ne0.false)), known w r e.1 e.2))
@@ -88,7 +88,7 @@ same-length-3 c = search rules
 
 returns-3 : tie.Need-returns
 returns-3 c =
-    let w = c in
+    let w = c.before.before.before.before.before.before in
     let r = c.with_totals.result in
     let e = c.with_totals.ensures in (
       is w r e.1 e.2,

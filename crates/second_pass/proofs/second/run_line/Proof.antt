@@ -37,7 +37,7 @@ run-found-requires c κs =
       subst (λ (w : Window). w.from ≤ w.to) (sym (window p.before.before)) n.0,
       subst (λ (w : Window). w.to ≤ length p.next_line-window.new.bytes) (sym (window p.before.before)) n.1,
       ap (λ (q : Pass). q.outcome) e.0 ∙ p.moved.ensures.1,
-      same_known a.args.r p.with_pass-next.result a.args.store.now e.1 e.2 a.pre,
+      same_known a.args.r p.with_pass-next.result a.args.store.now e.1 e.2 a.requires,
     )
 
 same_length : tie.Need-shape_of-bytes
