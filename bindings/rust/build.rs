@@ -14,7 +14,7 @@ fn main() {
     let library = folder.join("libtableau_sum.a");
     if !library.is_file() {
         refuse(&format!(
-            "There is no {}. `rt staticlib tableau_sum`, run in the repository's root, proves the library and writes it to \
+            "There is no {}. `bindings/library`, run in the repository's root, proves the library and writes it to \
              target/staticlib; TABLEAU_SUM_LIB can name another folder that has it.",
             library.display()
         ));

@@ -42,7 +42,7 @@
 //! # Building
 //!
 //! The build links `libtableau_sum.a` from the folder that `TABLEAU_SUM_LIB` names, else from `target/staticlib` of the repository, where
-//! `rt staticlib tableau_sum` writes it. It is for x86-64 Linux. Nothing is downloaded.
+//! `bindings/library` writes it. It is for x86-64 Linux. Nothing is downloaded.
 
 #![deny(missing_docs)]
 

@@ -1,5 +1,4 @@
 -- `trials::counts_sound` meets its contract. Assumes nothing.
-use mathlib.Core.Path.{◌≡◌}
 use borrow.Author.Rules.{rules}
 use Rattle.trials.proofs.counts_sound.Statement.{statement}
 use Rattle.trials.proofs.counts_sound.Tie as tie

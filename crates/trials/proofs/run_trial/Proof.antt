@@ -1,5 +1,5 @@
 -- `trials::run_trial` meets its contract. The invariant: what is shown and left so far, and the steps from here on, give the whole. Assumes nothing.
-use mathlib.Core.Path.{◌≡◌, refl, sym, ap, subst, ◌∙◌}
+use mathlib.Core.Path.{◌≡◌, refl, sym, ap, ◌∙◌}
 use mathlib.Core.List.{List, [], ◌∷◌, ◌++◌, append_assoc, append-nil}
 use lib.Seq.{take_all}
 use native.Mathlib.Nat.{mul-zero}
@@ -7,7 +7,7 @@ use Prim.Native.Nat.{ℕ, ◌+◌, ◌*◌, ◌-◌, ◌≤◌}
 use native.Mathlib.Omega.{arith}
 use lib.ListN.{length, take, drop, length-set, set}
 use borrow.Author.Rules.{rules}
-use Rattle.model.specs.Calls.{Call, Lent, held}
+use Rattle.model.specs.Calls.{Call, held}
 use Rattle.model.specs.Known.{Checked, Stepped}
 use mathlib.Core.Bool.{true}
 use Rattle.model.specs.Demand3.{after_calls}

@@ -1,6 +1,6 @@
 -- `trials::run_trials` meets its contract. The invariant: what the trials so far have shown, and the last one's sum. Assumes nothing.
 use mathlib.Core.Path.{◌≡◌, refl, sym, ap, ◌∙◌}
-use Prim.Native.Nat.{ℕ, ◌+◌, ◌*◌, ◌-◌, ◌<◌, ◌≤◌}
+use Prim.Native.Nat.{◌+◌, ◌*◌, ◌-◌, ◌≤◌}
 use native.Mathlib.Nat.{mul-le-mul, add-sub_cancel_left}
 use borrow.Rule.Slice.PartMut.{mid_len}
 use native.Mathlib.Omega.{arith}

@@ -1,11 +1,10 @@
 -- `trials::try_cutoffs` meets its contract: it is refused by the number that its tests give, or all trials are made. Assumes nothing.
-use mathlib.Core.Path.{◌≡◌, refl, sym, ap, ap₂, subst, ◌∙◌}
+use mathlib.Core.Path.{◌≡◌, sym, ap, ap₂, subst, ◌∙◌}
 use native.Mathlib.Omega.{arith}
 use lib.ListN.{length, take}
 use Prim.Native.Nat.{ℕ, ◌*◌}
 use Rattle.model.specs.Demand3.{next}
 use Rattle.model.specs.Calls.{Lent, held, Left, answer_of, no_counts, plain_answer, overlaid}
-use Rattle.model.specs.Store.{no_loss}
 use Rattle.model.specs.Trials.{Plan, plan_of, tried_all, TrialsPromise}
 use Rattle.model.specs.declared.Answer.{Answer}
 use Rattle.model.specs.declared.Header.{Header}
