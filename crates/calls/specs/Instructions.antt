@@ -5,7 +5,6 @@ use Rattle.model.specs.Numbers.{rates_sound}
 use Rattle.model.specs.Calls.{Call, noise, reset, gate, by_noise, by_reset, Kind, branching, turning, moving, looking, kind_of}
 use Rattle.model.specs.declared.Gate.TheVariants as Gate
 use Rattle.circuit.specs.declared.lines.Act.{Act}
-use Rattle.circuit.specs.declared.lines.Act.TheVariants as Act
 use Rattle.calls.specs.declared.Operation.{Operation}
 
 -- on a qubit p, or on the qubits p and q: CNOT is from p to q; the line's 15 rates are those of pairs of Paulis
