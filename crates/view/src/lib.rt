@@ -221,7 +221,7 @@ pub fn row<'a>(v: EntryView<'a>, r: usize) -> RowWords
     row_at(v.words, v.answer.header.size, r)
 }
 
-// ---- a word of an entry, with plain parameters: whoever calls it needs no walk by hand
+// ---- a word of an entry, with plain parameters
 
 // Word i of the view of the entry at a place, 0 past the end and in a refused view.
 pub fn view_word(h: Header, store: &[u64], place: usize, i: usize) -> u64

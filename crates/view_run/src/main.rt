@@ -12,7 +12,7 @@ ghost use Rattle.view_run.specs.Shown.{shown_entry};
 use model::{Channel, Gate, Header, Size};
 use view::{Coef, RowWords};
 
-// ---- what a view shows, with plain parameters: whoever calls these needs no walk by hand
+// ---- what a view shows, with plain parameters
 
 fn weight(h: Header, store: &[u64], place: usize) -> f64
     ensures { result ≡ float (shown_entry h store.now place).entry.weight }
