@@ -6,8 +6,8 @@ pub const MAX_COEFFICIENTS: usize = 24;
 /// The most entries that a sum can have room for.
 pub const MAX_CAPACITY: usize = 256;
 
-/// Every call of the library takes less stack than this. Measured by the repository's `examples/c/stack.c`: at most 24,392 bytes, by a
-/// circuit.
+/// Every call of the library takes less stack than this. Measured by the repository's `examples/c/stack.c`: at most 27,504 bytes, by
+/// trials of cutoffs.
 pub const STACK_BYTES: usize = 36864;
 
 /// Columns of a field of a sheet.

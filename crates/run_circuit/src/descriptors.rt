@@ -2,7 +2,7 @@
 // the other: so then nothing is run.
 use std::fs;
 use std::fs::OpenOptions;
-use std::io::{Error, ErrorKind, Result};
+use std::io::{Error, Result};
 use std::os::fd::AsFd;
 use std::rt::HostRuntime;
 use streams::STDOUT_FILENO;
