@@ -25,20 +25,24 @@ pub fn header(size: Size, count: usize, threshold: f64, cutoff: f64, dirty: bool
 pub fn header_with(h: Header, count: usize, dirty: bool) -> Header
     ensures { result ≡ header_with h count dirty }
 {
-    let size = h.size;
-    header(size, count, h.threshold, h.cutoff, dirty)
+    Header { count, dirty, ..h }
 }
 
 // The header of a refused fresh call or reading.
 pub fn zero_header() -> Header
     ensures { result ≡ zero_header }
 {
-    let size = Size {
-        n: 0,
-        k: 0,
-        capacity: 0,
-    };
-    header(size, 0, 0.0, 0.0, false)
+    header(
+        Size {
+            n: 0,
+            k: 0,
+            capacity: 0,
+        },
+        0,
+        0.0,
+        0.0,
+        false,
+    )
 }
 
 // ---- answers
@@ -92,6 +96,7 @@ pub fn without_counts(
 }
 
 // A header and a number, and 0 for every other number: what a refusal comes with.
+#[tactic(auto, unfolding(model::specs::Calls::plain_answer))]
 pub fn plain_answer(header: Header, number: u64) -> Answer
     ensures { result ≡ plain_answer header number }
 {

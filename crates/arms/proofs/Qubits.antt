@@ -1,10 +1,10 @@
 -- Number 3 in the cases of a shape, and what it leaves: qubits below n, so below 64. Assumes nothing.
 use mathlib.Core.Path.{◌≡◌, refl, ◌∙◌}
 use mathlib.Core.Bool.{Bool, true, false, ◌||◌}
-use Prim.Native.Nat.{ℕ, ◌<◌, ◌≤◌}
+use Prim.Native.Nat.{ℕ, ◌≤◌}
 use native.Mathlib.Nat.{lt_of_lt_of_le}
 use lib.Dec.{leb}
-use borrow.Author.Tests.{leb-false, le-leb, lt-leb}
+use borrow.Author.Tests.{leb-false}
 use Rattle.model.specs.Lists.{some_of}
 use Rattle.model.specs.Numbers.{some_not_below}
 use Rattle.arms.specs.Arms.{shape_qubits, ShapeBelow}
@@ -18,22 +18,6 @@ alone true = refl
 alone false = refl
 
 module _ (n : ℕ) where
-  pub one_told : (q : ℕ) → leb n q ≡ some_not_below n (shape_qubits (One q))
-  unfolding some_not_below some_of shape_qubits
-  one_told q = alone (leb n q)
-
-  pub lose-told : (q : ℕ) → leb n q ≡ some_not_below n (shape_qubits (Lose q))
-  unfolding some_not_below some_of shape_qubits
-  lose-told q = alone (leb n q)
-
-  pub first_above : (p q : ℕ) → n ≤ p → true ≡ some_not_below n (shape_qubits (Two p q))
-  unfolding some_not_below some_of shape_qubits
-  first_above p q h = rw (le-leb n p h)
-
-  pub second-told : (p q : ℕ) → p < n → leb n q ≡ some_not_below n (shape_qubits (Two p q))
-  unfolding some_not_below some_of shape_qubits
-  second-told p q h = rw (lt-leb n p h) (alone (leb n q))
-
   pub all-below : (h : Shape) → some_not_below n (shape_qubits h) ≡ false → ShapeBelow n h
   unfolding some_not_below some_of shape_qubits
   all-below (One q) e = leb-false n q (alone (leb n q) ∙ e)

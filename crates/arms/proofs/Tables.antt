@@ -9,7 +9,6 @@ use lib.ListN.{length, get_or, drop, replicate, drop_of_length-le}
 use lib.Seq.{drop-cons}
 use Rattle.model.specs.Floats.{float, zero_bits, plus, over}
 use Rattle.model.specs.Channels.{Arm, two, depolarize2, arms, qubits, pair_arms, pauli_pairs, folded_to}
-use Rattle.model.specs.declared.Pauli.TheVariants.{I, X, Y, Z}
 use Rattle.arms.specs.Arms.{pauli_at, mutation_at, arm_at, arms_below, arms_list, shape_qubits, Stands}
 use Rattle.arms.specs.declared.Shape.TheVariants.{Two}
 use Rattle.arms.specs.declared.Arms.{Arms}
@@ -18,25 +17,6 @@ folded-snoc : (l : List Arm) (x : Arm) (t : Float) → folded_to t (l ++ x ∷ [
 unfolding folded_to
 folded-snoc [] x t = refl
 folded-snoc (y ∷ l) x t = folded-snoc l x (plus t y.rate)
-
-pub is-i : (i : ℕ) → i ≡ 0 → I ≡ pauli_at i
-unfolding pauli_at
-is-i i e = rw e
-
-pub is_x : (i : ℕ) → i ≡ 1 → X ≡ pauli_at i
-unfolding pauli_at
-is_x i e = rw e
-
-pub is_y : (i : ℕ) → i ≡ 2 → Y ≡ pauli_at i
-unfolding pauli_at
-is_y i e = rw e
-
-pub is-z : (i : ℕ) → (i ≡ 0 → ⊥) → (i ≡ 1 → ⊥) → (i ≡ 2 → ⊥) → Z ≡ pauli_at i
-unfolding pauli_at
-is-z zero a b c = absurd (a refl)
-is-z (suc zero) a b c = absurd (b refl)
-is-z (suc (suc zero)) a b c = absurd (c refl)
-is-z (suc (suc (suc i))) a b c = refl
 
 -- a list is its elements, one by one
 spread : ℕ → ℕ → List Float → List Float

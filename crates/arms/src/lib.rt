@@ -18,7 +18,7 @@ pub enum Shape {
     Two(usize, usize),
 }
 
-// The branches: `count` of them, each with its rate.
+// The branches: `count` of them, each with its rate. An array and a count, since memory is fixed.
 #[derive(Clone, Copy)]
 pub struct Arms {
     pub rates: [f64; 15],
@@ -27,22 +27,20 @@ pub struct Arms {
 }
 
 // I, X, Y, Z.
+#[tactic(auto, unfolding(crate::specs::Arms::pauli_at))]
 pub fn pauli_at(i: usize) -> Pauli
     ensures { result ≡ Spec.pauli_at i }
 {
-    if i == 0 {
-        return Pauli::I;
+    match i {
+        0 => Pauli::I,
+        1 => Pauli::X,
+        2 => Pauli::Y,
+        _ => Pauli::Z,
     }
-    if i == 1 {
-        return Pauli::X;
-    }
-    if i == 2 {
-        return Pauli::Y;
-    }
-    Pauli::Z
 }
 
 // What branch a changes: X, Y, Z in order; pairs in the order IX, IY, IZ, XI, XX, ..
+#[tactic(auto, unfolding(crate::specs::Arms::mutation_at))]
 pub fn mutation_at(shape: Shape, a: usize) -> BranchMutation
     requires { a < 15 }
     ensures { result ≡ Spec.mutation_at shape a }
@@ -57,6 +55,7 @@ pub fn mutation_at(shape: Shape, a: usize) -> BranchMutation
 }
 
 // Three Pauli rates at a qubit.
+#[tactic(auto, unfolding(crate::specs::Arms::arms_list, crate::specs::Arms::arms_below, crate::specs::Arms::mutation_at, crate::specs::Arms::pauli_at, crate::specs::Arms::shape_qubits, model::specs::Channels::arms, model::specs::Channels::qubits, model::specs::Channels::channel_arms, model::specs::Channels::pauli_arms))]
 pub fn pauli_arms(x: f64, y: f64, z: f64, q: usize) -> Arms
     ensures { Spec.Stands result (Channels.one (Channel.Pauli x y z) q) }
 {
@@ -72,6 +71,7 @@ pub fn pauli_arms(x: f64, y: f64, z: f64, q: usize) -> Arms
 }
 
 // The loss of a qubit.
+#[tactic(auto, unfolding(crate::specs::Arms::arms_list, crate::specs::Arms::arms_below, crate::specs::Arms::mutation_at, crate::specs::Arms::shape_qubits, model::specs::Channels::arms, model::specs::Channels::qubits, model::specs::Channels::channel_arms))]
 pub fn loss_arms(p: f64, q: usize) -> Arms
     ensures { Spec.Stands result (Channels.one (Channel.Loss p) q) }
 {
@@ -85,6 +85,7 @@ pub fn loss_arms(p: f64, q: usize) -> Arms
 }
 
 // The branches of a channel on one qubit.
+#[tactic(auto, unfolding(model::specs::Channels::arms, model::specs::Channels::qubits, model::specs::Channels::channel_arms))]
 pub fn channel_arms(channel: Channel, q: usize) -> Arms
     ensures { Spec.Stands result (Channels.one channel q) }
 {
@@ -113,27 +114,22 @@ pub fn pair_arms(rates: [f64; 15], p: usize, q: usize) -> Arms
 pub fn depolarize2_arms(rate: f64, p: usize, q: usize) -> Arms
     ensures { Spec.Stands result (Channels.depolarize2 rate p q) }
 {
-    let part = rate / 15.0;
-    let rates = [part; 15];
     Arms {
-        rates,
+        rates: [rate / 15.0; 15],
         count: 15,
         shape: Shape::Two(p, q),
     }
 }
 
 // The rates added from 0 in order.
+#[tactic(auto, unfolding(crate::specs::Arms::arms_list, crate::specs::Arms::arms_below, model::specs::Channels::folded_to))]
 pub fn total_rate(arms: Arms) -> f64
     requires { arms.count ≤ 15 }
     ensures { result ≡ Channels.folded_to (float 0) (Spec.arms_list arms) }
 {
-    let rates = arms.rates;
-    let count = arms.count;
     let mut t = 0.0;
-    let mut a = 0;
-    while a < count {
-        t = t + rates[a];
-        a += 1;
+    for a in 0..arms.count {
+        t += arms.rates[a];
     }
     t
 }
@@ -141,48 +137,34 @@ pub fn total_rate(arms: Arms) -> f64
 // ---- number 3
 
 // A qubit is not below n.
+#[tactic(auto, unfolding(model::specs::Numbers::some_not_below, model::specs::Lists::some_of, crate::specs::Arms::shape_qubits))]
 pub fn outside(n: usize, shape: Shape) -> bool
     ensures { result ≡ some_not_below n (Spec.shape_qubits shape) }
 {
     match shape {
-        Shape::One(q) => n <= q,
-        Shape::Lose(q) => n <= q,
-        Shape::Two(p, q) => {
-            if n <= p {
-                return true;
-            }
-            n <= q
-        }
+        Shape::One(q) | Shape::Lose(q) => n <= q,
+        Shape::Two(p, q) => n <= p || n <= q,
     }
 }
 
 // ---- number 4
 
 // Neither NaN nor below 0 nor above 1.
+#[tactic(auto, unfolding(model::specs::Floats::up_to))]
 pub fn rate_sound(p: f64) -> bool
     ensures { result ≡ up_to (float one_bits) p }
 {
-    if 0.0 <= p {
-        return p <= 1.0;
-    }
-    false
+    0.0 <= p && p <= 1.0
 }
 
 // The rates that the channel names: for depolarising, p itself.
+#[tactic(auto, unfolding(model::specs::Lists::every, model::specs::Numbers::rates))]
 pub fn named_rates_sound(channel: Channel, q: usize) -> bool
     ensures { result ≡ every (up_to (float one_bits)) (rates (Channels.one channel q)) }
 {
     match channel {
-        Channel::Pauli(x, y, z) => {
-            if rate_sound(x) {
-                if rate_sound(y) {
-                    return rate_sound(z);
-                }
-            }
-            false
-        }
-        Channel::Loss(p) => rate_sound(p),
-        Channel::Depolarizing(p) => rate_sound(p),
+        Channel::Pauli(x, y, z) => rate_sound(x) && rate_sound(y) && rate_sound(z),
+        Channel::Loss(p) | Channel::Depolarizing(p) => rate_sound(p),
     }
 }
 
@@ -190,11 +172,8 @@ pub fn named_rates_sound(channel: Channel, q: usize) -> bool
 pub fn all_rates_sound(rates: [f64; 15]) -> bool
     ensures { result ≡ every (up_to (float one_bits)) rates }
 {
-    let mut i = 0;
-    while i < 15 {
-        if rate_sound(rates[i]) {
-            i += 1;
-        } else {
+    for i in 0..15 {
+        if !rate_sound(rates[i]) {
             return false;
         }
     }

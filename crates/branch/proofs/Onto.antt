@@ -2,13 +2,13 @@
 -- Assumes nothing.
 use mathlib.Core.Path.{◌≡◌, refl, sym, ap, ap₂, ◌∙◌}
 use mathlib.Core.List.{List, [], ◌∷◌, ◌++◌, append_assoc}
-use Prim.Native.Nat.{ℕ, zero, suc, ◌+◌, ◌*◌, ◌≤◌, ◌<◌}
+use Prim.Native.Nat.{ℕ, zero, suc, ◌+◌, ◌*◌, ◌-◌, ◌≤◌, ◌<◌}
 use native.Mathlib.Nat.{add-zero}
 use native.Mathlib.Numerals.{add-one}
 use native.Mathlib.Omega.{arith}
 use lib.Bits.{bit_xor}
 use lib.ListN.{length, take, drop, get_or, set, length-append, length-drop, take-append-drop}
-use lib.Seq.{length-take-le, take_at, drop_at, set_at, drop-cons, drop-drop, take-suc, take-take, get_or-take, get_or-drop}
+use lib.Seq.{length-take-le, take_at, drop_at, set_at, drop-cons, drop-drop, take-take, get_or-take, get_or-drop}
 use borrow.Rule.Slice.PartMut.{Post-is}
 use Rattle.model.specs.Lists.{words_below}
 use Rattle.model.specs.Entries.{row_at, row_words, rows_below, with_stretch}
@@ -103,23 +103,15 @@ module _ (from to : ℕ) (w : List ℕ) where
   pub part_length : (len : ℕ) → from + len ≤ length w → length (part from len w) ≡ len
   part_length len h = length-take-le len (drop from w) (omega (arith, length-drop from w))
 
-  -- words copied
-  pub copied_none : w ≡ onto to (part from 0 w) w
-  copied_none = onto-none to w
-
-  pub copied_next : {l : List ℕ} (j : ℕ) → l ≡ onto to (part from j w) w → from + j < to → to + j < length w
-      → set l (to + j) (get_or l (from + j) 0) ≡ onto to (part from (j + 1) w) w
-  copied_next {l} j e h k =
-      let p = part from j w in
-      let n : length p ≡ j = part_length j (omega arith) in
-      let v : get_or l (from + j) 0 ≡ get_or (drop from w) j 0 =
-      ap (λ (u : List ℕ). get_or u (from + j) 0) e ∙ onto-read to w p (omega arith) (from + j) h ∙ sym (get_or-drop from w j 0) in
-      let more : p ++ get_or (drop from w) j 0 ∷ [] ≡ part from (j + 1) w =
-      sym (ap (λ (i : ℕ). take i (drop from w)) (add-one j) ∙ take-suc (drop from w) j 0 (omega (arith, length-drop from w))) in
-      ap₂ (λ (u : List ℕ) (x : ℕ). set u (to + j) x) e v
-      ∙ ap (λ (i : ℕ). set (onto to p w) (to + i) (get_or (drop from w) j 0)) (sym n)
-      ∙ onto-next to w p (get_or (drop from w) j 0) (omega arith)
-      ∙ ap (λ (u : List ℕ). onto to u w) more
+  -- words copied from what stands in front
+  pub part-copied : (len : ℕ) {front x behind : List ℕ} → from + len ≤ to → to + len ≤ length w → front ≡ take to w → behind ≡ drop to w → x ≡ take (from + len - from) (drop from front)
+      → front ++ (x ++ drop len behind) ≡ onto to (part from len w) w
+  unfolding onto
+  part-copied len {front} {x} {behind} h k f b e =
+      let n : from + len - from ≡ len = omega arith in
+      let p : x ≡ part from len w = e ∙ ap (λ (i : ℕ). take i (drop from front)) n ∙ ap (part from len) f ∙ part-front from len to w h in
+      ap₂ (λ (u v : List ℕ). u ++ (v ++ drop len behind)) f p
+      ∙ ap (λ (u : List ℕ). take to w ++ (part from len w ++ u)) (ap (drop len) b ∙ drop-drop len to w ∙ ap (λ (i : ℕ). drop (to + i) w) (sym (part_length len (omega arith))))
 
   -- rows copied with what the mutation leaves of their phases
   module _ (m : BranchMutation) where

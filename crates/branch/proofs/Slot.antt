@@ -139,3 +139,8 @@ module _ (s : Size) (m : BranchMutation) (weight : ℕ) (change : Change) (i slo
       ∙ onto-onto to w (head ++ coefs) rows (to + head_len + cs) at (omega arith)
       ∙ ap (λ (x : List ℕ). onto to x w) (append_assoc head coefs rows ∙ sym (words_are d))
       ∙ lent-onto (entry_len s) slot w (words_of branch) (ap length (words_are d) ∙ length-append head (coefs ++ rows) ∙ omega (arith, length-append coefs rows))
+
+-- the parent ends before the slot, which ends within the store
+pub rooms : (s : Size) {len : ℕ} (i slot : ℕ) (w : List ℕ) → len ≡ entry_len s → i < slot → slot * entry_len s + entry_len s ≤ length w
+    → (i * len + len ≤ slot * len) × (slot * len + len ≤ length w)
+rooms s i slot w e h l = rw e (stride-le (entry_len s) i slot h, l)

@@ -19,13 +19,13 @@ use changes::Change;
 use model::{BranchMutation, Size};
 
 // The loss word after a mutation.
+#[tactic(auto, unfolding(crate::specs::Flips::loss_after))]
 pub fn loss_after(m: BranchMutation, loss: u64) -> u64
     requires { QubitsBelow 64 m }
     ensures { result ≡ loss_after m loss }
 {
     match m {
-        BranchMutation::Pauli(_, _) => loss,
-        BranchMutation::Pair(_, _, _, _) => loss,
+        BranchMutation::Pauli(_, _) | BranchMutation::Pair(_, _, _, _) => loss,
         BranchMutation::Loss(q) => changes::toggle_loss(loss, q),
     }
 }
@@ -37,11 +37,9 @@ pub fn same_words(e: &[u64], p: &[u64]) -> bool
     requires { length e.now ≡ length p.now }
     ensures { result ≡ all_below (same_word e.now p.now) (length p.now) }
 {
-    let mut differ: u64 = 0;
-    let mut i = 0;
-    while i < p.len() {
-        differ = differ | (e[i] ^ p[i]);
-        i += 1;
+    let mut differ = 0;
+    for i in 0..p.len() {
+        differ |= e[i] ^ p[i];
     }
     differ == 0
 }
@@ -52,18 +50,16 @@ fn same_flipped(e: &[u64], p: &[u64], rows: usize, flips: u64) -> bool
     requires { (rows ≤ 64) × (length e.now ≡ 3 * rows) × (length p.now ≡ 3 * rows) }
     ensures { (m : BranchMutation) → flips ≡ flip_bits m p.now 0 rows → result ≡ all_below (same_word e.now (flipped_rows m rows p.now)) (3 * rows) }
 {
-    let mut x: u64 = 0;
-    let mut z: u64 = 0;
-    let mut phase: u64 = 0;
+    let mut x = 0;
+    let mut z = 0;
+    let mut phase = 0;
     let mut left = flips;
-    let mut i: usize = 0;
-    while i < rows {
+    for i in 0..rows {
         let at = 3 * i;
-        x = x | (e[at] ^ p[at]);
-        z = z | (e[at + 1] ^ p[at + 1]);
-        phase = phase | (e[at + 2] ^ (p[at + 2] ^ 2 * (left % 2)));
-        left = left / 2;
-        i += 1;
+        x |= e[at] ^ p[at];
+        z |= e[at + 1] ^ p[at + 1];
+        phase |= e[at + 2] ^ (p[at + 2] ^ 2 * (left % 2));
+        left /= 2;
     }
     x | z | phase == 0
 }
@@ -74,9 +70,10 @@ pub fn same_part(e: &[u64], p: &[u64], rows: usize, flips: u64) -> bool
     ensures { (m : BranchMutation) → flips ≡ flip_bits m p.now 0 rows → result ≡ all_below (same_word e.now (flipped_rows m rows p.now)) (3 * rows) }
 {
     if flips == 0 {
-        return same_words(e, p);
+        same_words(e, p)
+    } else {
+        same_flipped(e, p, rows, flips)
     }
-    same_flipped(e, p, rows, flips)
 }
 
 // The first rows of the two have the same x and z.
@@ -84,13 +81,11 @@ pub fn same_paulis(e: &[u64], p: &[u64], rows: usize) -> bool
     requires { (rows ≤ 128) × (3 * rows ≤ length e.now) × (3 * rows ≤ length p.now) }
     ensures { result ≡ all_below (same_pauli e.now p.now) rows }
 {
-    let mut x: u64 = 0;
-    let mut z: u64 = 0;
-    let mut i: usize = 0;
-    while i < rows {
-        x = x | (e[3 * i] ^ p[3 * i]);
-        z = z | (e[3 * i + 1] ^ p[3 * i + 1]);
-        i += 1;
+    let mut x = 0;
+    let mut z = 0;
+    for i in 0..rows {
+        x |= e[3 * i] ^ p[3 * i];
+        z |= e[3 * i + 1] ^ p[3 * i + 1];
     }
     x | z == 0
 }
@@ -103,7 +98,7 @@ pub fn toggle_entry(e: &mut [u64], size: Size, q: usize, delta: u64)
     requires { Within size × (length e.old ≡ entry_len size) × (q < 64) × (delta ≡ masks_of usual_salts size.n (Loss q) (entry_of size e.old).entry.body.rows) }
     ensures { e.new ≡ words_of (changed_keyed usual_salts size.n (Loss q) (entry_of size e.old)) }
 {
-    e[3] = e[3] ^ delta;
+    e[3] ^= delta;
     e[1] = changes::toggle_loss(e[1], q);
 }
 
@@ -137,11 +132,8 @@ pub fn copy_part(store: &mut [u64], from: usize, to: usize, len: usize)
     requires { (from + len ≤ to) × (to + len ≤ length store.old) }
     ensures { store.new ≡ onto to (part from len store.old) store.old }
 {
-    let mut j: usize = 0;
-    while j < len {
-        store[to + j] = store[from + j];
-        j += 1;
-    }
+    let (front, behind) = store.split_at_mut(to);
+    behind[..len].copy_from_slice(&front[from..from + len]);
 }
 
 // Rows, copied with the phases of those whose bits are set flipped, the first row's bit lowest.
@@ -150,8 +142,7 @@ fn copy_flipped(store: &mut [u64], from: usize, to: usize, rows: usize, flips: u
     ensures { (m : BranchMutation) → flips ≡ flip_bits m (drop from store.old) 0 rows → store.new ≡ onto to (flipped_rows m rows (drop from store.old)) store.old }
 {
     let mut left = flips;
-    let mut r: usize = 0;
-    while r < rows {
+    for r in 0..rows {
         let at = from + 3 * r;
         let out = to + 3 * r;
         let x = store[at];
@@ -160,8 +151,7 @@ fn copy_flipped(store: &mut [u64], from: usize, to: usize, rows: usize, flips: u
         store[out] = x;
         store[out + 1] = z;
         store[out + 2] = phase ^ 2 * (left % 2);
-        left = left / 2;
-        r += 1;
+        left /= 2;
     }
 }
 
@@ -170,11 +160,9 @@ pub fn copy_rows(store: &mut [u64], from: usize, to: usize, n: usize, c: Change)
     requires { (n ≤ 64) × (from + 3 * (2 * n) ≤ to) × (to + 3 * (2 * n) ≤ length store.old) }
     ensures { (m : BranchMutation) → c ≡ change_of usual_salts n m (drop from store.old) → store.new ≡ onto to (map_rows n (flipped_row m) (drop from store.old)) store.old }
 {
-    if c.low == 0 {
-        if c.high == 0 {
-            copy_part(store, from, to, 3 * (2 * n));
-            return;
-        }
+    if c.low == 0 && c.high == 0 {
+        copy_part(store, from, to, 3 * (2 * n));
+        return;
     }
     let low = changes::low_rows(n);
     copy_flipped(store, from, to, low, c.low);

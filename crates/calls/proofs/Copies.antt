@@ -1,12 +1,12 @@
 -- A store's words in a scratch. Assumes nothing.
 use mathlib.Core.Path.{◌≡◌, ap, ◌∙◌}
 use mathlib.Core.List.{List, ◌++◌, append-nil}
-use Prim.Native.Nat.{ℕ, ◌-◌, ◌≤◌, ◌<◌}
+use Prim.Native.Nat.{ℕ, ◌-◌, ◌≤◌}
 use native.Mathlib.Nat.{sub_self}
 use native.Mathlib.Omega.{arith}
 use lib.ListN.{length, take, replicate, length-append, length-replicate}
 use lib.Seq.{take_at, length-take-le}
-use borrow.Author.Tests.{lt-ltb, le-ltb}
+use borrow.Author.Tests.{le-ltb}
 use Rattle.calls.specs.Stores.{laid, copied}
 
 module _ (w : List ℕ) where
@@ -20,14 +20,6 @@ module _ (w : List ℕ) where
   laid_same = rw (sub_self (length w)) (append-nil w)
 
   module _ (s : List ℕ) where
-    pub copied-short : length s < length w → s ≡ copied w s
-    unfolding copied
-    copied-short h = rw (lt-ltb (length s) (length w) h)
-
-    pub copied-long : length w ≤ length s → laid (length s) w ≡ copied w s
-    unfolding copied
-    copied-long h = rw (le-ltb (length s) (length w) h)
-
     -- in the first `room` words, which are then lent once more
     pub copy-lent : (room : ℕ) → length w ≤ room → room ≤ length s
         → {copy : List ℕ} → copy ≡ copied w (take room s) → (rest : List ℕ) → take room (copy ++ rest) ≡ laid room w

@@ -14,7 +14,7 @@ ghost use Rattle.calls.specs.Stores.{store_words, copied};
 use circuit::Act;
 pub use loss::{can_lose, lost_after, lost_at_start, total};
 use model::{Answer, Gate, Header};
-pub use outgrown::{Outgrown, outgrown_by};
+pub use outgrown::{Asked, Outgrown, outgrown_by};
 
 // What an instruction does, with its rates, on a qubit p, or on the qubits p and q.
 #[derive(Clone, Copy)]
@@ -30,10 +30,7 @@ pub fn make(h: Header, store: &mut [u64], o: Operation, known: bool) -> Answer
     requires { Known known (held h store.old) }
     ensures { Stepped (call_on o) known (held h store.old) result store.new }
 {
-    let act = o.act;
-    let rates = o.rates;
-    let p = o.p;
-    let q = o.q;
+    let Operation { act, rates, p, q } = o;
     match act {
         Act::H => gates::gate_known(h, store, Gate::H(p), known),
         Act::S => gates::gate_known(h, store, Gate::S(p), known),
@@ -46,6 +43,7 @@ pub fn make(h: Header, store: &mut [u64], o: Operation, known: bool) -> Answer
 }
 
 // Number 4 does not apply to the call, whatever its qubits.
+#[tactic(auto, unfolding(model::specs::Calls::kind_of))]
 pub fn rates_sound(act: Act, rates: [f64; 15]) -> bool
     ensures { (p q : ℕ) → result ≡ sound_rates (call_of act rates p q) }
 {
@@ -62,27 +60,24 @@ pub fn rates_sound(act: Act, rates: [f64; 15]) -> bool
             let named = arms::rate_sound(rate);
             !noise::rates_refused(arms::depolarize2_arms(rate, 0, 0), named)
         }
-        Act::H => true,
-        Act::S => true,
-        Act::ResetLoss => true,
-        Act::Cnot => true,
+        Act::H | Act::S | Act::ResetLoss | Act::Cnot => true,
     }
 }
 
 // The words of a store of so many entries of n qubits, each with one coefficient; 0 beyond the limits of both.
+#[tactic(auto, unfolding(crate::specs::Stores::store_words))]
 pub fn words(n: usize, entries: usize) -> usize
     ensures upper_bound { result ≤ 100352 }
     ensures value { result ≡ store_words n entries }
 {
-    if n <= 64 {
-        if entries <= 256 {
-            return entries * (8 + 6 * n);
-        }
+    if n <= 64 && entries <= 256 {
+        return entries * (8 + 6 * n);
     }
     0
 }
 
 // The store's words, and 0 past them, in a scratch that has room for them; a shorter one is left as it is.
+#[tactic(auto, unfolding(crate::specs::Stores::copied, crate::specs::Stores::laid))]
 pub fn copy(scratch: &mut [u64], store: &[u64])
     ensures { scratch.new ≡ copied store.now scratch.old }
 {
@@ -90,6 +85,6 @@ pub fn copy(scratch: &mut [u64], store: &[u64])
     if scratch.len() < n {
         return;
     }
-    words::copy_words(&mut scratch[..n], store);
-    words::clear(&mut scratch[n..]);
+    scratch[..n].copy_from_slice(store);
+    scratch[n..].fill(0);
 }

@@ -9,20 +9,18 @@ ghost use Rattle.calls.specs.Outgrown as Spec;
 use crate::Operation;
 use model::{Answer, Header, Size};
 
-// The entries that the call would list before it truncates, and whether they are these exactly or at most these; a cutoff with which it
-// is accepted. 0 where there is no such number.
+// How many entries a call would list before it truncates.
 #[derive(Clone, Copy)]
-pub struct Outgrown {
-    pub entries: usize,
-    pub exact: bool,
-    pub cutoff: f64,
+pub enum Asked {
+    Exactly(usize),
+    AtMost(usize),
 }
 
-// Its first two fields.
+// .. and a cutoff with which it is accepted, where there are such numbers.
 #[derive(Clone, Copy)]
-struct Asked {
-    entries: usize,
-    exact: bool,
+pub struct Outgrown {
+    pub entries: Option<Asked>,
+    pub cutoff: Option<f64>,
 }
 
 // ---- the call on a copy
@@ -30,19 +28,14 @@ struct Asked {
 fn with_capacity(h: Header, capacity: usize) -> Header
     ensures { result ≡ Spec.with_capacity capacity h }
 {
-    let size = Size {
-        n: h.size.n,
-        k: h.size.k,
-        capacity,
-    };
+    let size = Size { capacity, ..h.size };
     answers::header(size, h.count, h.threshold, h.cutoff, h.dirty)
 }
 
 fn with_cutoff(h: Header, cutoff: f64) -> Header
     ensures { result ≡ Spec.with_cutoff cutoff h }
 {
-    let size = h.size;
-    answers::header(size, h.count, h.threshold, cutoff, h.dirty)
+    answers::header(h.size, h.count, h.threshold, cutoff, h.dirty)
 }
 
 // The answer of the call on a copy of the store, in the first `room` words of the scratch.
@@ -63,84 +56,56 @@ fn answer_on_copy(
 // ---- entries
 
 // The words of a store of 256 entries of this size; 0 beyond the limits of n and k.
+#[tactic(auto, unfolding(crate::specs::Outgrown::largest_room))]
 fn largest_room(size: Size) -> usize
     ensures { result ≡ Spec.largest_room size }
 {
-    if size.n <= model::MAX_QUBITS {
-        if size.k <= model::MAX_COEFFICIENTS {
-            return model::MAX_CAPACITY * entries::entry_len(size);
-        }
+    if size.n <= model::MAX_QUBITS && size.k <= model::MAX_COEFFICIENTS {
+        return model::MAX_CAPACITY * entries::entry_len(size);
     }
     0
 }
 
-// a + b, or the largest number instead of a larger one. (Counts are far smaller.)
-fn capped_sum(a: usize, b: usize) -> usize
-    ensures { result ≡ Spec.capped_sum a b }
-{
-    if a <= usize::MAX - b {
-        return a + b;
-    }
-    usize::MAX
-}
-
-fn unknown() -> Asked
-    ensures { result ≡ Spec.unknown }
-{
-    Asked {
-        entries: 0,
-        exact: false,
-    }
-}
-
 // The entries there, and those that the call stores in room for 256, if the scratch has it.
-fn counted(h: Header, store: &[u64], scratch: &mut [u64], o: Operation) -> Asked
+#[tactic(auto, unfolding(crate::specs::Outgrown::counted, crate::specs::Outgrown::count_of, crate::specs::Outgrown::capped_sum))]
+fn counted(h: Header, store: &[u64], scratch: &mut [u64], o: Operation) -> Option<Asked>
     ensures { result ≡ Spec.counted (call_on o) (held h store.now) (length scratch.old) }
 {
     let room = largest_room(h.size);
-    if scratch.len() < room {
-        return unknown();
-    }
-    if room < store.len() {
-        return unknown();
+    if scratch.len() < room || room < store.len() {
+        return None;
     }
     let wide = with_capacity(h, model::MAX_CAPACITY);
     let a = answer_on_copy(wide, store, scratch, room, o);
-    let counts = a.counts;
     if a.number != 0 {
-        return unknown();
+        return None;
     }
-    Asked {
-        entries: capped_sum(h.count, counts.stored),
-        exact: true,
-    }
+    Some(Asked::Exactly(h.count.saturating_add(a.counts.stored)))
 }
 
 // The entries there, and the branches that are like none of them: with the largest cutoff all of these are dropped.
-fn bounded(h: Header, store: &[u64], scratch: &mut [u64], o: Operation) -> Asked
+#[tactic(auto, using(crate::proofs::Copies::laid_same), unfolding(crate::specs::Outgrown::bounded, crate::specs::Outgrown::bound_of, crate::specs::Outgrown::capped_sum))]
+fn bounded(h: Header, store: &[u64], scratch: &mut [u64], o: Operation) -> Option<Asked>
     requires { length store.now ≤ length scratch.old }
     ensures { result ≡ Spec.bounded (call_on o) (held h store.now) }
 {
-    let largest = f64::from_bits(0x7fef_ffff_ffff_ffff);
+    let largest = f64::MAX;
     let high = with_cutoff(h, largest);
     let a = answer_on_copy(high, store, scratch, store.len(), o);
-    let counts = a.counts;
     if a.number != 0 {
-        return unknown();
+        return None;
     }
-    Asked {
-        entries: capped_sum(h.count, counts.dropped),
-        exact: false,
-    }
+    Some(Asked::AtMost(h.count.saturating_add(a.counts.dropped)))
 }
 
 // The first, or else the second.
-fn entries_asked(h: Header, store: &[u64], scratch: &mut [u64], o: Operation) -> Asked
+#[tactic(auto, unfolding(crate::specs::Outgrown::entries_asked))]
+fn entries_asked(h: Header, store: &[u64], scratch: &mut [u64], o: Operation) -> Option<Asked>
     requires { length store.now ≤ length scratch.old }
     ensures { result ≡ Spec.entries_asked (call_on o) (held h store.now) (length scratch.old) }
 {
     let a = counted(h, store, scratch, o);
-    if a.exact {
+    if a.is_some() {
         return a;
     }
     bounded(h, store, scratch, o)
@@ -149,6 +114,7 @@ fn entries_asked(h: Header, store: &[u64], scratch: &mut [u64], o: Operation) ->
 // ---- cutoffs
 
 // The larger of the sum's cutoff and 2^-60.
+#[tactic(auto, unfolding(crate::specs::Outgrown::first_cutoff))]
 fn first_cutoff(cutoff: f64) -> f64
     ensures { result ≡ Spec.first_cutoff cutoff }
 {
@@ -160,45 +126,40 @@ fn first_cutoff(cutoff: f64) -> f64
 }
 
 // That cutoff, or the first up to 1 of those that doubling it gives, with which the call is accepted.
-fn fitting_cutoff(h: Header, store: &[u64], scratch: &mut [u64], o: Operation) -> f64
+fn fitting_cutoff(h: Header, store: &[u64], scratch: &mut [u64], o: Operation) -> Option<f64>
     requires { length store.now ≤ length scratch.old }
     ensures { result ≡ Spec.fitting_cutoff (call_on o) (held h store.now) }
 {
     let mut cutoff = first_cutoff(h.cutoff);
-    let mut left: usize = 65;
-    let n = store.len();
-    while 0 < left {
+    for _ in 0..65u32 {
         if 1.0 < cutoff {
-            return 0.0;
+            return None;
         }
         let high = with_cutoff(h, cutoff);
-        let a = answer_on_copy(high, store, scratch, n, o);
+        let a = answer_on_copy(high, store, scratch, store.len(), o);
         if a.number == 0 {
-            return cutoff;
+            return Some(cutoff);
         }
         cutoff = cutoff + cutoff;
-        left -= 1;
     }
-    0.0
+    None
 }
 
 // ---- both
 
 // Of a call that was refused; unknown to a scratch that is shorter than the store.
+#[tactic(auto, unfolding(crate::specs::Outgrown::outgrown_by))]
 pub fn outgrown_by(h: Header, store: &[u64], scratch: &mut [u64], o: Operation) -> Outgrown
     ensures { result ≡ Spec.outgrown_by (call_on o) (held h store.now) (length scratch.old) }
 {
     if scratch.len() < store.len() {
         return Outgrown {
-            entries: 0,
-            exact: false,
-            cutoff: 0.0,
+            entries: None,
+            cutoff: None,
         };
     }
-    let a = entries_asked(h, store, scratch, o);
     Outgrown {
-        entries: a.entries,
-        exact: a.exact,
+        entries: entries_asked(h, store, scratch, o),
         cutoff: fitting_cutoff(h, store, scratch, o),
     }
 }

@@ -37,7 +37,7 @@ pub fn loss_change(q: usize) -> Change
     ensures { result ≡ loss_change q }
 {
     Change {
-        delta: keys::loss_mask(keys::usual_salts(), q),
+        delta: keys::row_mask(q, keys::usual_salts().loss),
         low: 0,
         high: 0,
     }
@@ -51,23 +51,19 @@ pub fn sign_masks(salts: Salts, m: usize) -> [u64; 128]
     ensures { SignMasks salts m result }
 {
     let mut masks = [0u64; 128];
-    let mut i: usize = 0;
-    while i < m {
-        masks[i] = keys::sign_mask(salts, i);
-        i += 1;
+    for i in 0..m {
+        masks[i] = keys::row_mask(i, salts.sign);
     }
     masks
 }
 
 // The first of 2n rows, as many as have room in a word.
+#[tactic(auto, unfolding(crate::specs::Changes::low_rows))]
 pub fn low_rows(n: usize) -> usize
     requires { n ≤ 64 }
     ensures { result ≡ low_rows n }
 {
-    if n < 32 {
-        return 2 * n;
-    }
-    64
+    if n < 32 { 2 * n } else { 64 }
 }
 
 // x of row i at qubit q.
@@ -108,18 +104,16 @@ fn walk_rows(masks: &[u64; 128], rows: &[u64], q: usize, from: usize, to: usize)
     requires { (q < 64) × (from ≤ to) × (to ≤ from + 64) × (to ≤ 128) × (3 * to ≤ length rows.now) }
     ensures { (s : Salts) → SignMasks s to masks.now → Walks s rows.now q from to result }
 {
-    let mut x: u64 = 0;
-    let mut z: u64 = 0;
-    let mut xs: u64 = 0;
-    let mut zs: u64 = 0;
-    let mut i: usize = to;
-    while from < i {
-        i -= 1;
+    let mut x = 0;
+    let mut z = 0;
+    let mut xs = 0;
+    let mut zs = 0;
+    for i in (from..to).rev() {
         let mask = masks[i];
         let x_set = x_bit(rows, i, q);
         let z_set = z_bit(rows, i, q);
-        x = x ^ times_bit(x_set, mask);
-        z = z ^ times_bit(z_set, mask);
+        x ^= times_bit(x_set, mask);
+        z ^= times_bit(z_set, mask);
         xs = 2 * xs + x_set;
         zs = 2 * zs + z_set;
     }
@@ -145,46 +139,46 @@ pub fn change_table(masks: &[u64; 128], n: usize, rows: &[u64], q: usize) -> [u6
 // ---- the branches of a parent, each by a look at two tables: of the first and of the second Pauli, whose numbers follow from the branch's
 
 // The rows that are walked: none for a loss.
+#[tactic(auto, unfolding(crate::specs::Tables::walked_rows))]
 pub fn walked_rows(shape: Shape, n: usize) -> usize
     requires { n ≤ 64 }
     ensures { result ≡ walked_rows shape n }
 {
     match shape {
-        Shape::One(_) => 2 * n,
+        Shape::One(_) | Shape::Two(_, _) => 2 * n,
         Shape::Lose(_) => 0,
-        Shape::Two(_, _) => 2 * n,
     }
 }
 
 // The table of the first of two Paulis. Where there is one qubit, it changes nothing.
+#[tactic(auto, unfolding(crate::specs::Tables::first_table, crate::specs::Tables::walked_rows))]
 pub fn first_table(masks: &[u64; 128], n: usize, rows: &[u64], shape: Shape) -> [u64; 12]
     requires { (n ≤ 64) × (3 * (2 * n) ≤ length rows.now) × ShapeBelow 64 shape × SignMasks usual_salts (walked_rows shape n) masks.now }
     ensures { result ≡ first_table shape n rows.now }
 {
     match shape {
-        Shape::One(_) => [0u64; 12],
-        Shape::Lose(_) => [0u64; 12],
+        Shape::One(_) | Shape::Lose(_) => [0; 12],
         Shape::Two(p, _) => change_table(masks, n, rows, p),
     }
 }
 
 // The table of the second, or of the only one. Of a loss, its mask stands everywhere.
+#[tactic(auto, unfolding(crate::specs::Tables::second_table, crate::specs::Tables::walked_rows))]
 pub fn second_table(masks: &[u64; 128], n: usize, rows: &[u64], shape: Shape) -> [u64; 12]
     requires { (n ≤ 64) × (3 * (2 * n) ≤ length rows.now) × ShapeBelow 64 shape × SignMasks usual_salts (walked_rows shape n) masks.now }
     ensures { result ≡ second_table shape n rows.now }
 {
     match shape {
-        Shape::One(q) => change_table(masks, n, rows, q),
+        Shape::One(q) | Shape::Two(_, q) => change_table(masks, n, rows, q),
         Shape::Lose(q) => {
-            let loss = loss_change(q);
-            let mask = loss.delta;
+            let mask = loss_change(q).delta;
             [mask, 0, 0, mask, 0, 0, mask, 0, 0, mask, 0, 0]
         }
-        Shape::Two(_, q) => change_table(masks, n, rows, q),
     }
 }
 
 // What branch a changes, by the tables of its parent.
+#[tactic(auto, unfolding(crate::specs::Tables::change_at, crate::specs::Tables::both_change, crate::specs::Tables::change_in))]
 pub fn change_at(first: &[u64; 12], second: &[u64; 12], a: usize) -> Change
     requires { (length first.now ≡ 12) × (length second.now ≡ 12) × (a < 15) }
     ensures { result ≡ change_at first.now second.now a }

@@ -1,12 +1,17 @@
 -- The number that the tests in front of a call give, a law for each. Assumes nothing.
 use mathlib.Core.Path.{◌≡◌, sym, ap, ◌∙◌}
 use mathlib.Core.Bool.{Bool, cond, not}
-use Prim.Native.Nat.{ℕ}
+use Prim.Native.Nat.{ℕ, ◌-◌, ◌*◌, ◌≤◌}
 use lib.Dec.{eqb}
 use borrow.Author.Tests.{eq-eqb, ne_eqb}
-use Rattle.model.specs.Numbers.{first_of}
-use Rattle.model.specs.Calls.{Lent, shape, words_sound, front}
+use lib.ListN.{length, take, drop}
+use Rattle.model.specs.Entries.{entry_len, past_count}
+use Rattle.model.specs.Numbers.{first_of, all_zero}
+use Rattle.model.specs.Calls.{Lent, shape, words_sound, front, zeros_past}
+use Rattle.model.proofs.Entries.{part-tail}
+use Rattle.model.proofs.Shape.{shaped, listed-within}
 use Rattle.model.proofs.Steps.{five, front-is}
+use Rattle.entries.specs.Within.{Within}
 
 module _ (own : ℕ) (x : Lent) where
   -- what the tests behind 1 and 2 give
@@ -31,3 +36,20 @@ module _ (own : ℕ) (x : Lent) where
   pub front-words : {b : Bool} → first_of (shape x) ≡ 0 → own ≡ 0 → b ≡ words_sound x → cond (not b) 5 0 ≡ front own x
   unfolding first_of
   front-words s z e = ap (λ (b : Bool). cond (not b) 5 0) e ∙ sym (by-own s (eq-eqb own 0 z))
+
+-- ---- what neither 1 nor 2 leaves
+
+module _ (x : Lent) (s : first_of (shape x) ≡ 0) where
+  pub lent-within : Within x.header.size × (x.header.count * entry_len x.header.size ≤ length x.words)
+  lent-within =
+      let h = shaped x s in
+      (record { qubits = h.size.qubits.high; coefficients = h.size.coefficients.high }, listed-within x h)
+
+  module _ (len : ℕ) (e : len ≡ entry_len x.header.size) where
+    -- the slots past the count begin within the store
+    pub past-within : x.header.count * len ≤ length x.words
+    past-within = rw e (lent-within.1)
+
+    pub past-zero : {r : Bool} → r ≡ all_zero (take (length x.words - x.header.count * len) (drop (x.header.count * len) x.words)) → r ≡ zeros_past x
+    unfolding past_count
+    past-zero z = z ∙ ap all_zero (part-tail (x.header.count * len) x.words ∙ ap (λ (l : ℕ). drop (x.header.count * l) x.words) e)

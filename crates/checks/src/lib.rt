@@ -21,27 +21,19 @@ use model::{Header, Size};
 pub fn one_to(most: usize, x: usize) -> bool
     ensures { result ≡ Numbers.one_to most x }
 {
-    if x < 1 {
-        return false;
-    }
-    x <= most
+    1 <= x && x <= most
 }
 
 // n, k and capacity are within their limits, and a store of `words` words has capacity × entry length of them.
+#[tactic(auto, unfolding(model::specs::Numbers::size_sound))]
 pub fn size_sound(size: Size, words: usize) -> bool
     ensures { result ≡ Numbers.size_sound size words }
 {
-    let n = size.n;
-    let k = size.k;
-    let capacity = size.capacity;
-    if one_to(model::MAX_QUBITS, n) {
-        if one_to(model::MAX_COEFFICIENTS, k) {
-            if one_to(model::MAX_CAPACITY, capacity) {
-                return words == capacity * entries::entry_len(size);
-            }
-        }
-    }
-    false
+    let Size { n, k, capacity } = size;
+    one_to(model::MAX_QUBITS, n)
+        && one_to(model::MAX_COEFFICIENTS, k)
+        && one_to(model::MAX_CAPACITY, capacity)
+        && words == capacity * entries::entry_len(size)
 }
 
 // ---- 2: the header
@@ -50,33 +42,26 @@ pub fn size_sound(size: Size, words: usize) -> bool
 pub fn finite_from_zero(x: f64) -> bool
     ensures { result ≡ finite_from_zero x }
 {
-    if 0.0 <= x {
-        return x < f64::from_bits(0x7ff0_0000_0000_0000);
-    }
-    false
+    0.0 <= x && x < f64::INFINITY
 }
 
+#[tactic(auto, unfolding(model::specs::Numbers::bounds_sound))]
 pub fn bounds_sound(threshold: f64, cutoff: f64) -> bool
     ensures { result ≡ Numbers.bounds_sound threshold cutoff }
 {
-    if finite_from_zero(threshold) {
-        return finite_from_zero(cutoff);
-    }
-    false
+    finite_from_zero(threshold) && finite_from_zero(cutoff)
 }
 
+#[tactic(auto, unfolding(model::specs::Numbers::header_sound))]
 pub fn header_sound(h: Header) -> bool
     ensures { result ≡ Numbers.header_sound h }
 {
-    let capacity = h.size.capacity;
-    let count = h.count;
-    if capacity < count {
-        return false;
-    }
-    bounds_sound(h.threshold, h.cutoff)
+    h.count <= h.size.capacity && bounds_sound(h.threshold, h.cutoff)
 }
 
-// Number 1 or 2, or 0 if neither applies: so it is where that is known.
+// Number 1 or 2, or 0 if neither applies: so it is where that is known. A number and no enum, here and below: it is the answer's, of the C
+// interface.
+#[tactic(auto, unfolding(model::specs::Numbers::first_of))]
 fn shape_number(h: Header, store: &[u64], known: bool) -> u64
     requires { Known known (held h store.now) }
     ensures { result ≡ Numbers.first_of (shape (held h store.now)) }
@@ -84,27 +69,24 @@ fn shape_number(h: Header, store: &[u64], known: bool) -> u64
     if known {
         return 0;
     }
-    let size = h.size;
-    if size_sound(size, store.len()) {
-        if header_sound(h) {
-            return 0;
-        }
+    if !size_sound(h.size, store.len()) {
+        return 1;
+    }
+    if !header_sound(h) {
         return 2;
     }
-    1
+    0
 }
 
 // ---- 5: the words
 
 // Not NaN, not below 0, not above 1024.
+#[tactic(auto, unfolding(model::specs::Numbers::weight_sound, model::specs::Floats::up_to))]
 pub fn weight_sound(w: u64) -> bool
     ensures { result ≡ Numbers.weight_sound w }
 {
     let x = words::float_of(w);
-    if 0.0 <= x {
-        return x <= 1024.0;
-    }
-    false
+    0.0 <= x && x <= 1024.0
 }
 
 // The largest word with no bit at n or higher.
@@ -112,10 +94,7 @@ pub fn largest(n: usize) -> u64
     requires { n ≤ 64 }
     ensures { result + 1 ≡ 2 ^ n }
 {
-    if n < 64 {
-        return (1 << n) - 1;
-    }
-    0xffff_ffff_ffff_ffff
+    if n < 64 { (1 << n) - 1 } else { u64::MAX }
 }
 
 // The exponent's field of a float's bits, and 1: 2048, the only one with a bit at 11, for a NaN or an infinity.
@@ -130,31 +109,29 @@ pub fn counted_sound(coefs: &[u64], count: u64, used: usize) -> bool
     requires { (used ≤ max_coefficients) × (used ≤ count) × (3 * used ≤ length coefs.now) }
     ensures { result ≡ all_below (Numbers.coef_sound count coefs.now) used }
 {
-    let mut any: u64 = 0;
-    let mut j: usize = 0;
-    while j < used {
+    let mut any = 0;
+    for j in 0..used {
         let at = 3 * j;
-        any = any | (exponent_next(coefs[at + 1]) | exponent_next(coefs[at + 2]));
-        j += 1;
+        any |= exponent_next(coefs[at + 1]) | exponent_next(coefs[at + 2]);
     }
     any <= 2047
 }
 
 // The places from `used` to k, none of them counted: 0.
+#[tactic(auto, unfolding(model::specs::Numbers::coefs_sound))]
 pub fn unused_sound(coefs: &[u64], count: u64, used: usize, k: usize) -> bool
     requires { (k ≤ max_coefficients) × (count ≤ used) × (used ≤ k) × (3 * k ≤ length coefs.now) × (all_below (Numbers.coef_sound count coefs.now) used ≡ true) }
     ensures { result ≡ Numbers.coefs_sound k count coefs.now }
 {
-    let mut any: u64 = 0;
-    let mut j = used;
-    while j < k {
+    let mut any = 0;
+    for j in used..k {
         let at = 3 * j;
-        any = any | (coefs[at] | coefs[at + 1] | coefs[at + 2]);
-        j += 1;
+        any |= coefs[at] | coefs[at + 1] | coefs[at + 2];
     }
     any == 0
 }
 
+#[tactic(auto, unfolding(model::specs::Numbers::coefs_sound))]
 pub fn coefs_sound(coefs: &[u64], k: usize, count: u64) -> bool
     requires { (k ≤ max_coefficients) × (3 * k ≤ length coefs.now) }
     ensures { result ≡ Numbers.coefs_sound k count coefs.now }
@@ -163,10 +140,7 @@ pub fn coefs_sound(coefs: &[u64], k: usize, count: u64) -> bool
         return counted_sound(coefs, count, k);
     }
     let used = count as usize;
-    if counted_sound(coefs, count, used) {
-        return unused_sound(coefs, count, used, k);
-    }
-    false
+    counted_sound(coefs, count, used) && unused_sound(coefs, count, used, k)
 }
 
 // No row has a bit of x or z at n or higher, or a phase above 3: neither has the OR of all. A pair of rows a turn, with an OR of its own
@@ -175,29 +149,24 @@ pub fn rows_sound(rows: &[u64], n: usize) -> bool
     requires { (n ≤ 64) × (3 * (2 * n) ≤ length rows.now) }
     ensures { result ≡ Numbers.rows_sound n rows.now }
 {
-    let mut a: u64 = 0;
-    let mut b: u64 = 0;
-    let mut c: u64 = 0;
-    let mut d: u64 = 0;
-    let mut e: u64 = 0;
-    let mut f: u64 = 0;
-    let mut i: usize = 0;
-    while i < n {
+    let mut a = 0;
+    let mut b = 0;
+    let mut c = 0;
+    let mut d = 0;
+    let mut e = 0;
+    let mut f = 0;
+    for i in 0..n {
         let at = 6 * i;
-        a = a | rows[at];
-        b = b | rows[at + 1];
-        c = c | rows[at + 2];
-        d = d | rows[at + 3];
-        e = e | rows[at + 4];
-        f = f | rows[at + 5];
-        i += 1;
+        a |= rows[at];
+        b |= rows[at + 1];
+        c |= rows[at + 2];
+        d |= rows[at + 3];
+        e |= rows[at + 4];
+        f |= rows[at + 5];
     }
     let words = (a | b) | (d | e);
     let phases = c | f;
-    if largest(n) < words {
-        return false;
-    }
-    phases <= 3
+    words <= largest(n) && phases <= 3
 }
 
 // Every word of an entry but weight and keys is one that a call accepts.
@@ -205,31 +174,22 @@ pub fn body_sound(e: &[u64], size: Size) -> bool
     requires { Within size × (length e.now ≡ entry_len size) }
     ensures { result ≡ Numbers.body_sound size (entry_of size e.now).entry.body }
 {
-    let n = size.n;
-    let k = size.k;
-    if largest(n) < e[1] {
-        return false;
-    }
+    let Size { n, k, .. } = size;
     let count = e[4];
-    if (k as u64) < count {
+    let rows = 5 + 3 * k;
+    if e[1] > largest(n) || count > k as u64 {
         return false;
     }
-    let rows = 5 + 3 * k;
-    if coefs_sound(&e[5..rows], k, count) {
-        return rows_sound(&e[rows..], n);
-    }
-    false
+    coefs_sound(&e[5..rows], k, count) && rows_sound(&e[rows..], n)
 }
 
 // Every word of an entry but its keys is one that a call accepts.
+#[tactic(auto, unfolding(crate::specs::Sound::entry_sound, model::specs::Entries::entry_of))]
 pub fn entry_sound(e: &[u64], size: Size) -> bool
     requires { Within size × (length e.now ≡ entry_len size) }
     ensures { result ≡ entry_sound size (strip (entry_of size e.now)) }
 {
-    if weight_sound(e[0]) {
-        return body_sound(e, size);
-    }
-    false
+    weight_sound(e[0]) && body_sound(e, size)
 }
 
 // Every word of the listed entries but their keys is one that a call accepts.
@@ -238,11 +198,8 @@ pub fn entries_sound(store: &[u64], size: Size, count: usize) -> bool
     ensures { result ≡ Numbers.entries_sound size (map strip (listed size count store.now)) }
 {
     let len = entries::entry_len(size);
-    let mut i = 0;
-    while i < count {
-        if entry_sound(words::stretch(store, len, i), size) {
-            i += 1;
-        } else {
+    for i in 0..count {
+        if !entry_sound(words::stretch(store, len, i), size) {
             return false;
         }
     }
@@ -255,11 +212,8 @@ pub fn weights_sound(store: &[u64], size: Size, count: usize) -> bool
     ensures { result ≡ Numbers.weights_sound (map strip (listed size count store.now)) }
 {
     let len = entries::entry_len(size);
-    let mut i = 0;
-    while i < count {
-        if weight_sound(store[i * len]) {
-            i += 1;
-        } else {
+    for i in 0..count {
+        if !weight_sound(store[i * len]) {
             return false;
         }
     }
@@ -270,11 +224,9 @@ pub fn weights_sound(store: &[u64], size: Size, count: usize) -> bool
 pub fn all_zero(part: &[u64]) -> bool
     ensures { result ≡ Numbers.all_zero part.now }
 {
-    let mut any: u64 = 0;
-    let mut i = 0;
-    while i < part.len() {
-        any = any | part[i];
-        i += 1;
+    let mut any = 0;
+    for word in part {
+        any |= *word;
     }
     any == 0
 }
@@ -285,28 +237,22 @@ fn words_sound(h: Header, store: &[u64], known: bool) -> bool
     requires { (Numbers.first_of (shape (held h store.now)) ≡ 0) × Known known (held h store.now) }
     ensures { result ≡ words_sound (held h store.now) }
 {
-    let size = h.size;
-    let count = h.count;
+    let Header { size, count, .. } = h;
     if known {
         return weights_sound(store, size, count);
     }
     let past = count * entries::entry_len(size);
-    if all_zero(&store[past..]) {
-        return entries_sound(store, size, count);
-    }
-    false
+    all_zero(&store[past..]) && entries_sound(store, size, count)
 }
 
 // ---- the tests in front of a call
 
 // The number of one test of a call's own: 0 if it does not apply.
+#[tactic(auto, unfolding(model::specs::Numbers::first_of))]
 pub fn test(number: u64, applies: bool) -> u64
     ensures { result ≡ Numbers.first_of (Numbers.gives number applies ∷ []) }
 {
-    if applies {
-        return number;
-    }
-    0
+    if applies { number } else { 0 }
 }
 
 // EVERY CALL BEGINS WITH THIS: 1, 2, the number `own` that its own tests of its arguments gave, or 5: the first that is not 0. Whoever has
@@ -322,18 +268,12 @@ pub fn front(h: Header, store: &[u64], own: u64, known: bool) -> u64
     if own != 0 {
         return own;
     }
-    if words_sound(h, store, known) {
-        return 0;
-    }
-    5
+    if words_sound(h, store, known) { 0 } else { 5 }
 }
 
 // What is known after a call that gave this number.
 pub fn known_after(known: bool, number: u64) -> bool
     ensures { result ≡ known_after known number }
 {
-    if known {
-        return true;
-    }
-    number == 0
+    known || number == 0
 }

@@ -1,10 +1,7 @@
-mod ArgumentReading
 pub mod Examples
-mod Keys
-mod LineReading
 mod Reading
 mod RunEnds
+mod SameBytes
 mod Spelled
 mod Steps
 pub mod TargetLists
-mod Uncalled

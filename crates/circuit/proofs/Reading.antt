@@ -1,72 +1,59 @@
--- A target, by what was read of it. Assumes nothing.
-use mathlib.Core.Path.{◌≡◌, refl, sym, ap, ◌∙◌}
-use mathlib.Core.Bool.{true, false}
-use mathlib.Core.List.{List}
-use mathlib.Core.Logic.{◌⊎◌, ⊎_elim}
-use Prim.Native.Nat.{ℕ}
-use native.Mathlib.Omega.{arith}
-use denote.Enum.Declared.{tag_of}
-use borrow.Author.Tests.{eq-eqb, ne_eqb}
-use Rattle.circuit.specs.Numbers.{count_at}
-use Rattle.circuit.specs.Runs.{is_of, run_end, is_end}
-use Rattle.circuit.specs.Targets.{sees, bad, qubit_of, qubit_in, qubit_at, qubit_from, next_qubit, pair_with, second_at, pair_after, next_pair}
-use Rattle.circuit.specs.declared.lines.Fault.TheVariants.{Qubit}
-use Rattle.circuit.specs.declared.lines.Seen.{Seen}
-use Rattle.circuit.specs.declared.lines.Seen.TheVariants.{End, At, Bad}
-use Rattle.circuit.specs.declared.lines.Target.{Target}
-use Rattle.circuit.specs.declared.numbers.Count.{Count}
-use Rattle.circuit.specs.declared.numbers.Whole.{Whole}
-use Rattle.circuit.specs.declared.runs.Run.TheVariants.{Blanks, Word}
-use Rattle.circuit.specs.contracts.lines.Seen.{the_type}
+-- What is read, by what was read of it.
+use Rattle.std.proofs.Common.{◌≡◌, ◌+◌, ◌-◌, ℕ, List, suc, take, drop, true, false, Ok, Err, Result, set, arith}
+use Rattle.std.specs.Prelude.{Float}
+use Rattle.decimal.specs.Wholes.{whole_at}
+use Rattle.decimal.specs.declared.answer.DecimalError.{DecimalError}
+use Rattle.decimal.specs.declared.answer.Parsed.{Parsed}
+use Rattle.circuit.specs.Arguments.{no_rates, argument_at, counted, arguments_left, arguments_at}
+use Rattle.circuit.specs.Lines.{plain, bad_word, times, times_at, repeated, with_name, line_from, line_of}
+use Rattle.circuit.specs.Names.{named}
+use Rattle.circuit.specs.Runs.{is_of, run_end, is_end, is_at}
+use Rattle.circuit.specs.Targets.{bad, qubit_in, qubit_at}
+use Rattle.circuit.specs.declared.arguments.Argument.{Argument}
+use Rattle.circuit.specs.declared.lines.Fault.TheVariants as Fault
+use Rattle.circuit.specs.declared.lines.Item.TheVariants as Item
+use Rattle.circuit.specs.declared.lines.Misread.{Misread}
+use Rattle.circuit.specs.declared.lines.Name.{Name}
+use Rattle.circuit.specs.declared.runs.Run.TheVariants as Run
+
+-- ---- arguments
+
+-- the arguments that are left, by the first of them
+pub by_first : (text : List ℕ) (rates : List Float) (count to m n : ℕ) → n ≡ suc m → (r : Result Argument Misread) → r ≡ argument_at text to
+    → counted r rates count (λ a. arguments_left m text (set rates count a.value) (count + 1) a.to) ≡ arguments_left n text rates count to
+unfolding arguments_left
+by_first text rates count to m n z r e = simp (z, e)
+
+pub no_arguments : (text : List ℕ) (at : ℕ) → is_at text at 40 ≡ false → Ok (record { rates = no_rates; count = 0; to = at }) ≡ arguments_at text at
+unfolding arguments_at
+no_arguments text at h = simp h
+
+-- ---- REPEAT
+
+module _ (text : List ℕ) (from at digits : ℕ) (c : Parsed ℕ) (e : digits ≡ run_end (is_of Run.Blanks) text at) (k : c ≡ whole_at text digits) where
+  pub by_number : (w : Result ℕ DecimalError) → c.value ≡ w → times text from digits c.end w ≡ repeated text from at
+  unfolding repeated times_at
+  by_number w h = grind arith
+
+  pub no_number : (w : DecimalError) → c.value ≡ Err w → bad_word text Fault.Repeats digits ≡ repeated text from at
+  unfolding times
+  no_number w h = by_number (Err w) h
+
+-- ---- the front of a line
+
+module _ (text : List ℕ) (from : ℕ) (e : from ≡ run_end (is_of Run.Blanks) text 0) where
+  pub no_line : is_end text from ≡ true → plain Item.Nothing from from ≡ line_of text
+  unfolding line_of line_from
+  no_line h = grind arith
+
+  pub no_name : is_end text from ≡ false → is_at text from 125 ≡ false → (to : ℕ) → to ≡ run_end (is_of Run.Name) text from
+      → (name : Name) → name ≡ named (take (to - from) (drop from text)) → name ≡ Name.Other → bad_word text Fault.Name from ≡ line_of text
+  unfolding line_of line_from with_name
+  no_name h k to f name g o = grind arith
 
 -- ---- a qubit: the number c, and the word up to `to`
 
-module _ (text : List ℕ) (from to : ℕ) (c : Count) (k : c ≡ count_at text from) (e : to ≡ run_end (is_of Word) text from) where
-  of-text : qubit_in c from to ≡ qubit_at text from
-  unfolding qubit_at
-  of-text = ap (λ (x : Count). qubit_in x from to) k ∙ ap (qubit_in (count_at text from) from) e
-
-  pub not-all : (c.end ≡ to → ⊥) → bad Qubit from to ≡ qubit_at text from
-  unfolding qubit_in
-  not-all h = let r : bad Qubit from to ≡ qubit_in c from to = simp (ne_eqb c.end to h) in r ∙ of-text
-
-  pub no_word : c.end ≡ to → to ≡ from → bad Qubit from to ≡ qubit_at text from
-  unfolding qubit_in
-  no_word h z = let r : bad Qubit from to ≡ qubit_in c from to = simp (eq-eqb c.end to h, eq-eqb to from z) in r ∙ of-text
-
-  pub all-word : c.end ≡ to → (to ≡ from → ⊥) → (w : Whole) → c.whole ≡ w → qubit_of w from to ≡ qubit_at text from
-  unfolding qubit_in
-  all-word h z w f =
-      let r : qubit_of c.whole from to ≡ qubit_in c from to = simp (eq-eqb c.end to h, ne_eqb to from z) in
-      ap (λ (x : Whole). qubit_of x from to) (sym f) ∙ r ∙ of-text
-
--- ---- .. after blanks
-
-module _ (text : List ℕ) (at from : ℕ) (e : from ≡ run_end (is_of Blanks) text at) where
-  pub no-qubit : is_end text from ≡ true → sees End from from ≡ next_qubit text at
-  unfolding qubit_from next_qubit
-  no-qubit h = let r : sees End from from ≡ qubit_from text from = simp h in r ∙ ap (qubit_from text) e
-
-  pub a-qubit : is_end text from ≡ false → qubit_at text from ≡ next_qubit text at
-  unfolding qubit_from next_qubit
-  a-qubit h = let r : qubit_at text from ≡ qubit_from text from = simp h in r ∙ ap (qubit_from text) e
-
--- ---- a pair, by what is seen of its qubits
-
-module _ (text : List ℕ) (at : ℕ) (t : Target) (e : t ≡ next_qubit text at) where
-  pub second-seen : (p from : ℕ) (s : Seen) → t.seen ≡ s → pair_with p from at t s ≡ second_at text p from at
-  unfolding second_at
-  second-seen p from s h = ap (pair_with p from at t) (sym h) ∙ ap (λ (b : Target). pair_with p from at b b.seen) e
-
-  pub first-seen : (s : Seen) → t.seen ≡ s → pair_after text t s ≡ next_pair text at
-  unfolding next_pair
-  first-seen s h = ap (pair_after text t) (sym h) ∙ ap (λ (a : Target). pair_after text a a.seen) e
-
-  pub no-first : (tag_of the_type t.seen ≡ 0) ⊎ (tag_of the_type t.seen ≡ 2) → t ≡ next_pair text at
-  unfolding pair_after
-  no-first k = go t.seen k ∙ first-seen t.seen refl
-    where
-      go : (s : Seen) → (tag_of the_type s ≡ 0) ⊎ (tag_of the_type s ≡ 2) → t ≡ pair_after text t s
-      go End k = refl
-      go (Bad f) k = refl
-      go (At p q) k = absurd (⊎_elim (λ a. omega arith) (λ b. omega arith) k)
+pub no_word : (text : List ℕ) (from to : ℕ) (c : Parsed ℕ) → c ≡ whole_at text from → to ≡ run_end (is_of Run.Word) text from → c.end ≡ to → to ≡ from
+    → bad Fault.Qubit from to ≡ qubit_at text from
+unfolding qubit_at qubit_in
+no_word text from to c k e h z = grind arith

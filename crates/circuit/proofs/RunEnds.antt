@@ -1,15 +1,13 @@
--- Where a run of bytes ends, byte by byte. Assumes nothing.
+-- Where a run of bytes ends, byte by byte.
 use mathlib.Core.Path.{◌≡◌, refl, sym, ap, ◌∙◌}
-use mathlib.Core.Bool.{Bool, true, false, cond, ◌&&◌, ◌||◌}
+use mathlib.Core.Bool.{Bool, true, false, cond, ◌&&◌}
 use mathlib.Core.List.{List, [], ◌∷◌}
 use Prim.Native.Nat.{ℕ, suc, ◌+◌, ◌<◌, ◌≤◌}
 use native.Mathlib.Numerals.{add-one}
 use native.Mathlib.Omega.{arith}
-use lib.Dec.{eqb, leb, ltb}
 use lib.ListN.{length, drop, get_or, drop_of_length-le, length-drop}
 use lib.Seq.{drop-cons}
-use borrow.Author.Tests.{ltb-true, leb-false}
-use Rattle.circuit.specs.Runs.{run_length, run_end, is_end, is_at}
+use Rattle.circuit.specs.Runs.{run_length, run_end, is_end}
 
 shorter : (t : Bool) (n m : ℕ) → n ≤ m → cond t (suc n) 0 ≤ suc m
 shorter true n m h = omega arith
@@ -49,19 +47,10 @@ module _ (p : ℕ → Bool) (text : List ℕ) (i : ℕ) where
 
 -- ---- what stands at a place is in the line
 
-both_first : (a b : Bool) → (a && b) ≡ true → a ≡ true
+pub both_first : (a b : Bool) → (a && b) ≡ true → a ≡ true
 both_first true b h = refl
 both_first false b h = h
 
-neither-first : (a b : Bool) → (a || b) ≡ false → a ≡ false
-neither-first true b h = h
-neither-first false b h = refl
-
-module _ (text : List ℕ) (at : ℕ) where
-  pub at-inside : (b : ℕ) → is_at text at b ≡ true → at < length text
-  unfolding is_at
-  at-inside b h = ltb-true at (length text) (both_first (ltb at (length text)) (eqb (get_or text at 0) b) h)
-
-  pub not_end : is_end text at ≡ false → at < length text
-  unfolding is_end
-  not_end h = leb-false (length text) at (neither-first (leb (length text) at) (eqb (get_or text at 0) 35) h)
+pub not_end : (text : List ℕ) (at : ℕ) → is_end text at ≡ false → at < length text
+unfolding is_end
+not_end text at h = grind arith

@@ -1,4 +1,4 @@
--- A word compared with a name, byte by byte. Assumes nothing.
+-- A word compared with a name, byte by byte.
 use mathlib.Core.Path.{◌≡◌, refl, sym, ap, ap₂, ◌∙◌}
 use mathlib.Core.Bool.{Bool, true, false, ◌&&◌}
 use mathlib.Core.List.{List, [], ◌∷◌}
@@ -8,7 +8,7 @@ use lib.Dec.{eqb}
 use lib.ListN.{length, drop, get_or, drop_of_length-le}
 use lib.Seq.{drop-cons}
 use borrow.Author.Tests.{eq-eqb, ne_eqb}
-use Rattle.model.proofs.Lists.{and-false}
+use Rattle.std.proofs.Math.Bool.{and-false}
 use Rattle.circuit.specs.Names.{capital, spells}
 
 -- a word of another length is not the name

@@ -1,12 +1,18 @@
--- What a step through the targets finds lies within the line, and after a target it has gone on. Assumes nothing.
+-- What a step through the targets finds lies within the line, and after a target it has gone on.
 use mathlib.Core.Path.{◌≡◌, refl, sym, ap, ◌∙◌, subst}
-use mathlib.Core.Bool.{Bool, true, false, cond, not, ◌&&◌}
+use mathlib.Core.Bool.{Bool, true, false, not, ◌&&◌}
 use mathlib.Core.List.{List}
+use Rattle.std.specs.Prelude.{Result, Ok, Err}
 use Prim.Native.Nat.{ℕ, ◌<◌, ◌≤◌}
 use native.Mathlib.Omega.{arith}
 use lib.Dec.{eqb, leb, ltb}
 use lib.ListN.{length}
-use borrow.Author.Tests.{ltb-true, eqb-false, leb-true, leb-false, le-leb, not-true}
+use Rattle.std.proofs.Common.{◌≢◌}
+use Rattle.std.proofs.lemmas.Bool.{cond_both}
+use borrow.Author.Tests.{ltb-true, leb-true, leb-false, le-leb}
+use Rattle.decimal.specs.declared.answer.DecimalError.{DecimalError}
+use Rattle.decimal.specs.declared.answer.DecimalError.TheVariants.{NoNumber, TooLarge, Infinite}
+use Rattle.decimal.specs.declared.answer.Parsed.{Parsed}
 use Rattle.circuit.specs.Places.{Stepped, Onward}
 use Rattle.circuit.specs.Runs.{is_of, run_end, is_end}
 use Rattle.circuit.specs.Targets.{sees, bad, qubit_of, qubit_in, qubit_at, qubit_from, next_qubit, pair_of, pair_with, second_at, pair_after, next_pair, target_at}
@@ -15,32 +21,20 @@ use Rattle.circuit.specs.declared.lines.Fault.TheVariants.{Qubit, Range, Half, S
 use Rattle.circuit.specs.declared.lines.Seen.{Seen}
 use Rattle.circuit.specs.declared.lines.Seen.TheVariants.{End, At, Bad}
 use Rattle.circuit.specs.declared.lines.Target.{Target}
-use Rattle.circuit.specs.declared.numbers.Count.{Count}
-use Rattle.circuit.specs.declared.numbers.Whole.{Whole}
-use Rattle.circuit.specs.declared.numbers.Whole.TheVariants.{Is, Large, Missing}
 use Rattle.circuit.specs.declared.runs.Run.TheVariants.{Blanks, Word}
 use Rattle.circuit.proofs.RunEnds.{run_past, run-within}
 
 -- ---- by what is seen
-
-bad-at : {f : Fault} {p q : ℕ} → Bad f ≡ At p q → ⊥
-bad-at e = let z : ◌≡◌ {A = ℕ} 0 1 = cc in omega arith
-
-end-at : {p q : ℕ} → End ≡ At p q → ⊥
-end-at e = let z : ◌≡◌ {A = ℕ} 0 1 = cc in omega arith
-
-first-is : {p q a b : ℕ} → At a b ≡ At p q → p ≡ a
-first-is e = cc
 
 second_is : {p q a b : ℕ} → At a b ≡ At p q → q ≡ b
 second_is e = cc
 
 module _ {n at from to : ℕ} where
   bad-step : (f : Fault) → at ≤ from → from ≤ to → to ≤ n → Stepped n at (bad f from to)
-  bad-step f a b w = record { word = b; onward = a; within = w; qubits = λ p q h. absurd (bad-at h) }
+  bad-step f a b w = record { word = b; onward = a; within = w; qubits = λ p q h. cc }
 
   end_step : at ≤ from → from ≤ to → to ≤ n → Stepped n at (sees End from to)
-  end_step a b w = record { word = b; onward = a; within = w; qubits = λ p q h. absurd (end-at h) }
+  end_step a b w = record { word = b; onward = a; within = w; qubits = λ p q h. cc }
 
   at-step : (p q : ℕ) → p < 64 → q < 64 → at ≤ from → from < to → to ≤ n → Stepped n at (sees (At p q) from to)
   at-step p q i j a b w =
@@ -48,41 +42,30 @@ module _ {n at from to : ℕ} where
         word = omega arith;
         onward = a;
         within = w;
-        qubits = λ x y h. let u = first-is h in let v = second_is h in (omega arith, omega arith, b, w);
+        qubits = λ x y h. let u : x ≡ p = cc in let v = second_is h in (omega arith, omega arith, b, w);
       }
 
 -- in a longer line, from an earlier place on
 wider : {n m at to : ℕ} {r : Target} → Stepped n at r → n ≤ m → to ≤ at → Stepped m to r
 wider s h k = record { word = s.word; onward = omega (arith, s.onward); within = omega (arith, s.within); qubits = λ p q e. omega (arith, s.qubits p q e) }
 
--- by the two answers of a test
-by-test : {A : Type 0} (P : A → Type 0) (t : Bool) (a b : A) → (t ≡ true → P a) → (t ≡ false → P b) → P (cond t a b)
-by-test P true a b p q = p refl
-by-test P false a b p q = q refl
-
-both-second : (a b : Bool) → (a && b) ≡ true → b ≡ true
-both-second true b h = h
-both-second false true h = refl
-both-second false false h = h
-
 -- ---- a qubit
 
-qubit-of : (w : Whole) (from to : ℕ) → from < to → Stepped to from (qubit_of w from to)
+qubit-of : (w : Result ℕ DecimalError) (from to : ℕ) → from < to → Stepped to from (qubit_of w from to)
 unfolding qubit_of
-qubit-of (Is v) from to h =
-    by-test (Stepped to from) (ltb v 64) (sees (At v v) from to) (bad Range from to)
+qubit-of (Ok v) from to h =
+    cond_both (ltb v 64) (sees (At v v) from to) (bad Range from to) (Stepped to from)
     (λ e. let l = ltb-true v 64 e in at-step v v l l (omega arith) h (omega arith))
     (λ e. bad-step Range (omega arith) (omega arith) (omega arith))
-qubit-of Large from to h = bad-step Range (omega arith) (omega arith) (omega arith)
-qubit-of Missing from to h = bad-step Qubit (omega arith) (omega arith) (omega arith)
+qubit-of (Err NoNumber) from to h = bad-step Qubit (omega arith) (omega arith) (omega arith)
+qubit-of (Err TooLarge) from to h = bad-step Range (omega arith) (omega arith) (omega arith)
+qubit-of (Err Infinite) from to h = bad-step Qubit (omega arith) (omega arith) (omega arith)
 
-qubit-in : (c : Count) (from to : ℕ) → from ≤ to → Stepped to from (qubit_in c from to)
+qubit-in : (c : Parsed ℕ) (from to : ℕ) → from ≤ to → Stepped to from (qubit_in c from to)
 unfolding qubit_in
 qubit-in c from to h =
-    by-test (Stepped to from) (eqb c.end to && not (eqb to from)) (qubit_of c.whole from to) (bad Qubit from to)
-    (λ e.
-    let d : to ≡ from → ⊥ = eqb-false to from (not-true (eqb to from) (both-second (eqb c.end to) (not (eqb to from)) e)) in
-    qubit-of c.whole from to (omega arith))
+    cond_both (eqb c.end to && not (eqb to from)) (qubit_of c.value from to) (bad Qubit from to) (Stepped to from)
+    (λ e. let d : to ≢ from = grind arith in qubit-of c.value from to (omega arith))
     (λ e. bad-step Qubit (omega arith) h (omega arith))
 
 module _ (text : List ℕ) where
@@ -94,7 +77,7 @@ module _ (text : List ℕ) where
   qubit-from : (from : ℕ) → from ≤ length text → Stepped (length text) from (qubit_from text from)
   unfolding qubit_from
   qubit-from from h =
-      by-test (Stepped (length text) from) (is_end text from) (sees End from from) (qubit_at text from)
+      cond_both (is_end text from) (sees End from from) (qubit_at text from) (Stepped (length text) from)
       (λ e. end_step (omega arith) (omega arith) h)
       (λ e. qubit-at from h)
 
@@ -111,7 +94,7 @@ module _ (text : List ℕ) where
 pair-of : (p q from to : ℕ) → p < 64 → q < 64 → from < to → Stepped to from (pair_of p q from to)
 unfolding pair_of
 pair-of p q from to i j h =
-    by-test (Stepped to from) (eqb p q) (bad Same from to) (sees (At p q) from to)
+    cond_both (eqb p q) (bad Same from to) (sees (At p q) from to) (Stepped to from)
     (λ e. bad-step Same (omega arith) (omega arith) (omega arith))
     (λ e. at-step p q i j (omega arith) h (omega arith))
 
@@ -155,7 +138,7 @@ module _ (text : List ℕ) (at : ℕ) (h : length text ≤ at) where
   target_past false = qubit-past
 
   pub past-onward : Onward (length text) at (sees End at at)
-  past-onward = record { word = omega arith; onward = omega arith; within = λ k. k; qubits = λ p q e. absurd (end-at e) }
+  past-onward = record { word = omega arith; onward = omega arith; within = λ k. k; qubits = λ p q e. cc }
 
 -- what is found from any place on
 pub target-onward : (text : List ℕ) (pairs : Bool) (at : ℕ) → Onward (length text) at (target_at pairs text at)

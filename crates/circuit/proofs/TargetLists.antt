@@ -1,4 +1,4 @@
--- The targets of a line, one after the other. Assumes nothing.
+-- The targets of a line, one after the other.
 use mathlib.Core.Path.{◌≡◌, refl, sym, ap, ◌∙◌}
 use mathlib.Core.Bool.{Bool}
 use mathlib.Core.List.{List, [], ◌∷◌}

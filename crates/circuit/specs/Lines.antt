@@ -1,21 +1,18 @@
 -- What a line asks for:
 --     NAME[tag](arguments) targets      REPEAT n {      }      or nothing
 -- and then, if at all, a comment. Assumes nothing.
-use Rattle.std.specs.Prelude.{Bool, true, false, cond, ◌&&◌, List, [], ◌∷◌, ℕ, ◌+◌, ◌-◌, eqb, ltb, Float, length, take, drop}
+use Rattle.std.specs.Prelude.{Bool, true, false, cond, Result, Ok, Err, ◌&&◌, List, [], ◌∷◌, ℕ, ◌+◌, ◌-◌, eqb, ltb, Float, length, take, drop}
+use Rattle.decimal.specs.Wholes.{whole_at}
+use Rattle.decimal.specs.declared.answer.DecimalError.{DecimalError}
 use Rattle.circuit.specs.Arguments.{no_rates, arguments_at}
 use Rattle.circuit.specs.Names.{named, arguments_of, item_of}
-use Rattle.circuit.specs.Numbers.{count_at}
 use Rattle.circuit.specs.Runs.{is_of, run_end, is_end, is_word_end, is_at}
-use Rattle.circuit.specs.declared.Tag.{Tag}
 use Rattle.circuit.specs.declared.arguments.Arguments.{Arguments}
 use Rattle.circuit.specs.declared.lines.Fault.{Fault}
 use Rattle.circuit.specs.declared.lines.Item.{Item}
 use Rattle.circuit.specs.declared.lines.Line.{Line}
 use Rattle.circuit.specs.declared.lines.Name.{Name}
-use Rattle.circuit.specs.declared.lines.Verdict.{Verdict}
-use Rattle.circuit.specs.declared.lines.Verdict.TheVariants.{Sound, Bad}
-use Rattle.circuit.specs.declared.numbers.Whole.{Whole}
-use Rattle.circuit.specs.declared.numbers.Whole.TheVariants.{Is, Large, Missing}
+use Rattle.circuit.specs.declared.lines.Misread.{Misread}
 use Rattle.circuit.specs.declared.runs.Run.TheVariants as Run
 
 -- ---- names, told apart
@@ -59,13 +56,13 @@ alone text item from at = alone_to text item from at (run_end (is_of Run.Blanks)
 
 -- ---- tags
 
--- ']' at a place
-unfoldable pub tag_to : List ℕ → ℕ → Tag
-tag_to text close = cond (ltb close (length text)) (record { sound = true; end = close + 1 }) (record { sound = false; end = close })
+-- ']' at a place, of a tag that begins at another
+unfoldable pub tag_to : List ℕ → ℕ → ℕ → Result ℕ Misread
+tag_to text at close = cond (ltb close (length text)) (Ok (close + 1)) (Err (record { fault = Fault.Tag; from = at; to = close }))
 
--- a tag, if '[' stands there
-unfoldable pub tag_at : List ℕ → ℕ → Tag
-tag_at text at = cond (is_at text at 91) (tag_to text (run_end (is_of Run.Tag) text at)) (record { sound = true; end = at })
+-- where a tag ends, if '[' stands there
+unfoldable pub tag_at : List ℕ → ℕ → Result ℕ Misread
+tag_at text at = cond (is_at text at 91) (tag_to text at (run_end (is_of Run.Tag) text at)) (Ok at)
 
 unfoldable pub same_bytes : List ℕ → List ℕ → Bool
 same_bytes [] [] = true
@@ -81,11 +78,11 @@ abbrev pub reset_tag : List ℕ
 reset_tag = 91 ∷ 114 ∷ 101 ∷ 115 ∷ 101 ∷ 116 ∷ 95 ∷ 108 ∷ 111 ∷ 115 ∷ 115 ∷ 93 ∷ []
 
 -- a tag decides what I_ERROR and I are
-unfoldable pub tag_verdict : Name → List ℕ → Verdict
+unfoldable pub tag_verdict : Name → List ℕ → Result Unit Fault
 tag_verdict name tag =
-    cond (is_name name Name.IError) (cond (same_bytes tag loss_tag) Sound (Bad Fault.LossTag))
-    (cond (is_name name Name.I) (cond (same_bytes tag reset_tag) Sound (Bad Fault.ResetTag))
-    Sound)
+    cond (is_name name Name.IError) (cond (same_bytes tag loss_tag) (Ok tt) (Err Fault.LossTag))
+    (cond (is_name name Name.I) (cond (same_bytes tag reset_tag) (Ok tt) (Err Fault.ResetTag))
+    (Ok tt))
 
 -- ---- REPEAT
 
@@ -98,13 +95,12 @@ unfoldable pub opened : List ℕ → ℕ → ℕ → ℕ → Line
 opened text times from at = opened_at text times from (run_end (is_of Run.Blanks) text at)
 
 -- how often, from 1 on: a number from `digits` to `end`
-unfoldable pub times : List ℕ → ℕ → ℕ → ℕ → Whole → Line
-times text from digits end (Is n) = cond (ltb 0 n) (opened text n from end) (bad_word text Fault.Repeats digits)
-times text from digits end Large = bad_word text Fault.Repeats digits
-times text from digits end Missing = bad_word text Fault.Repeats digits
+unfoldable pub times : List ℕ → ℕ → ℕ → ℕ → Result ℕ DecimalError → Line
+times text from digits end (Ok n) = cond (ltb 0 n) (opened text n from end) (bad_word text Fault.Repeats digits)
+times text from digits end (Err e) = bad_word text Fault.Repeats digits
 
 unfoldable pub times_at : List ℕ → ℕ → ℕ → Line
-times_at text from digits = times text from digits (count_at text digits).end (count_at text digits).whole
+times_at text from digits = times text from digits (whole_at text digits).end (whole_at text digits).value
 
 unfoldable pub repeated : List ℕ → ℕ → ℕ → Line
 repeated text from at = times_at text from (run_end (is_of Run.Blanks) text at)
@@ -125,27 +121,27 @@ called text name from to rates at =
     (bad_word text Fault.Blank at)
 
 -- as many arguments as it takes
-unfoldable pub argued : List ℕ → Name → ℕ → ℕ → Arguments → Verdict → Line
-argued text name from to a (Bad fault) = plain (Item.Bad fault) a.from a.to
-argued text name from to a Sound =
+unfoldable pub argued : List ℕ → Name → ℕ → ℕ → Result Arguments Misread → Line
+argued text name from to (Err m) = plain (Item.Bad m.fault) m.from m.to
+argued text name from to (Ok a) =
     cond (eqb a.count (arguments_of name)) (called text name from to a.rates a.to)
     (plain (Item.Bad (Fault.Arguments (arguments_of name))) from a.to)
 
 unfoldable pub with_arguments : List ℕ → Name → ℕ → ℕ → ℕ → Line
-with_arguments text name from to at = argued text name from to (arguments_at text at) (arguments_at text at).verdict
+with_arguments text name from to at = argued text name from to (arguments_at text at)
 
 -- its tag is read, up to `at`
 unfoldable pub instruction : List ℕ → Name → ℕ → ℕ → ℕ → Line
 instruction text name from to at =
     cond (is_name name Name.Repeat) (cond (is_word_end text at) (repeated text from at) (bad_word text Fault.Blank at)) (with_arguments text name from to at)
 
-unfoldable pub judged : List ℕ → Name → ℕ → ℕ → ℕ → Verdict → Line
-judged text name from to at (Bad fault) = plain (Item.Bad fault) from at
-judged text name from to at Sound = instruction text name from to at
+unfoldable pub judged : List ℕ → Name → ℕ → ℕ → ℕ → Result Unit Fault → Line
+judged text name from to at (Err fault) = plain (Item.Bad fault) from at
+judged text name from to at (Ok u) = instruction text name from to at
 
-unfoldable pub tagged : List ℕ → Name → ℕ → ℕ → Tag → Line
-tagged text name from to t =
-    cond t.sound (judged text name from to t.end (tag_verdict name (take (t.end - to) (drop to text)))) (plain (Item.Bad Fault.Tag) to t.end)
+unfoldable pub tagged : List ℕ → Name → ℕ → ℕ → Result ℕ Misread → Line
+tagged text name from to (Err m) = plain (Item.Bad m.fault) m.from m.to
+tagged text name from to (Ok end) = judged text name from to end (tag_verdict name (take (end - to) (drop to text)))
 
 unfoldable pub with_tag : List ℕ → Name → ℕ → ℕ → Line
 with_tag text name from to = tagged text name from to (tag_at text to)

@@ -4,6 +4,7 @@ use Rattle.circuit.specs.Names.{named, item_of}
 use Rattle.circuit.specs.declared.lines.Act.{Act}
 use Rattle.circuit.specs.declared.lines.Item.TheVariants.{Call}
 use Rattle.circuit.specs.declared.lines.Line.{Line}
+use Rattle.circuit.specs.declared.lines.Misread.{Misread}
 use Rattle.circuit.specs.declared.lines.Seen.TheVariants.{At}
 use Rattle.circuit.specs.declared.lines.Target.{Target}
 
@@ -27,3 +28,7 @@ pub record Onward (n at : ℕ) (r : Target) : Type 0 where
   pub onward : at ≤ r.from
   pub within : at ≤ n → r.to ≤ n
   pub qubits : (p q : ℕ) → r.seen ≡ At p q → (p < 64) × (q < 64) × (r.from < r.to) × (r.to ≤ n)
+
+-- a word at fault stands between two places
+abbrev pub WordBetween : ℕ → Misread → ℕ → Type 0
+WordBetween at m to = (at ≤ m.from) × (m.from ≤ m.to) × (m.to ≤ to)

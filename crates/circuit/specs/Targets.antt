@@ -1,15 +1,15 @@
 -- The targets of a line: qubits, or pairs of qubits, with blanks before each, up to the line's end or a comment. Assumes nothing.
-use Rattle.std.specs.Prelude.{Bool, cond, not, ◌&&◌, List, [], ◌∷◌, ℕ, zero, suc, eqb, ltb, length}
-use Rattle.circuit.specs.Numbers.{count_at}
+use Rattle.std.specs.Prelude.{Bool, cond, Result, Ok, Err, not, ◌&&◌, List, [], ◌∷◌, ℕ, zero, suc, eqb, ltb, length}
+use Rattle.decimal.specs.Wholes.{whole_at}
+use Rattle.decimal.specs.declared.answer.DecimalError.{DecimalError}
+use Rattle.decimal.specs.declared.answer.DecimalError.TheVariants.{NoNumber, TooLarge, Infinite}
+use Rattle.decimal.specs.declared.answer.Parsed.{Parsed}
 use Rattle.circuit.specs.Runs.{is_of, run_end, is_end}
 use Rattle.circuit.specs.declared.lines.Fault.{Fault}
 use Rattle.circuit.specs.declared.lines.Fault.TheVariants.{Qubit, Range, Half, Same}
 use Rattle.circuit.specs.declared.lines.Seen.{Seen}
 use Rattle.circuit.specs.declared.lines.Seen.TheVariants.{End, At, Bad}
 use Rattle.circuit.specs.declared.lines.Target.{Target}
-use Rattle.circuit.specs.declared.numbers.Count.{Count}
-use Rattle.circuit.specs.declared.numbers.Whole.{Whole}
-use Rattle.circuit.specs.declared.numbers.Whole.TheVariants.{Is, Large, Missing}
 use Rattle.circuit.specs.declared.runs.Run.TheVariants.{Blanks, Word}
 
 -- ---- what is seen from one place to another
@@ -23,17 +23,18 @@ bad fault from to = sees (Bad fault) from to
 -- ---- a qubit
 
 -- a whole number below 64
-unfoldable pub qubit_of : Whole → ℕ → ℕ → Target
-qubit_of (Is v) from to = cond (ltb v 64) (sees (At v v) from to) (bad Range from to)
-qubit_of Large from to = bad Range from to
-qubit_of Missing from to = bad Qubit from to
+unfoldable pub qubit_of : Result ℕ DecimalError → ℕ → ℕ → Target
+qubit_of (Ok v) from to = cond (ltb v 64) (sees (At v v) from to) (bad Range from to)
+qubit_of (Err NoNumber) from to = bad Qubit from to
+qubit_of (Err TooLarge) from to = bad Range from to
+qubit_of (Err Infinite) from to = bad Qubit from to
 
 -- .. which is all of the word up to `to`
-unfoldable pub qubit_in : Count → ℕ → ℕ → Target
-qubit_in c from to = cond (eqb c.end to && not (eqb to from)) (qubit_of c.whole from to) (bad Qubit from to)
+unfoldable pub qubit_in : Parsed ℕ → ℕ → ℕ → Target
+qubit_in c from to = cond (eqb c.end to && not (eqb to from)) (qubit_of c.value from to) (bad Qubit from to)
 
 unfoldable pub qubit_at : List ℕ → ℕ → Target
-qubit_at text from = qubit_in (count_at text from) from (run_end (is_of Word) text from)
+qubit_at text from = qubit_in (whole_at text from) from (run_end (is_of Word) text from)
 
 -- .. if something stands there
 unfoldable pub qubit_from : List ℕ → ℕ → Target

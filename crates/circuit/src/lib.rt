@@ -1,6 +1,7 @@
 // One line of a circuit, in a subset of Stim's circuit language, without its line end:
 //     NAME[tag](arguments) targets      REPEAT n {      }      or nothing
 // and then, if at all, a comment from `#` on. Any bytes may be given. No call has a precondition.
+// A place in a line is a number beside it: no struct has both, since each step would open one and build the next.
 #![tactic(auto)]
 
 mod arguments;
@@ -10,14 +11,14 @@ mod numbers;
 mod runs;
 mod targets;
 
-ghost use Rattle.std.specs.Prelude.{◌≡◌, ◌+◌, ◌-◌, ◌≤◌, ◌<◌, length, take, drop};
+ghost use Rattle.std.specs.Prelude.{◌≡◌, ◌+◌, ◌-◌, ◌≤◌, ◌<◌, length, take, drop, MatchResult};
 ghost use Rattle.circuit.specs.Lines as Lines;
 ghost use Rattle.circuit.specs.Names as Names;
-ghost use Rattle.circuit.specs.Places.{Read};
+ghost use Rattle.circuit.specs.Places.{Read, WordBetween};
 
-pub use lines::{Act, Fault, Item, Line, Name, Reach, Seen, Target, Verdict};
+use lines::Misread;
+pub use lines::{Act, Fault, Item, Line, Name, Reach, Seen, Target};
 pub use names::{is_named, takes_pairs};
-use numbers::Whole;
 use runs::Run;
 pub use targets::{reach, target};
 
@@ -46,6 +47,7 @@ fn bad_word(line: &[u8], fault: Fault, from: usize) -> Line
 }
 
 // What stands in the line up to `at`, if nothing follows it.
+#[tactic(auto, unfolding(crate::specs::Lines::alone, crate::specs::Lines::alone_to))]
 fn alone(line: &[u8], item: Item, from: usize, at: usize) -> Line
     requires { (from ≤ at) × (at ≤ length line.now) × ((a : Act) → item ≡ Item.Call a → ⊥) }
     ensures read { Read line.now result }
@@ -60,61 +62,45 @@ fn alone(line: &[u8], item: Item, from: usize, at: usize) -> Line
 
 // ---- tags
 
-// A tag, if one stands there: where it ends; `sound`: it is closed.
-#[derive(Clone, Copy)]
-struct Tag {
-    sound: bool,
-    end: usize,
-}
-
-fn tag_at(line: &[u8], at: usize) -> Tag
+// Where a tag ends, if one stands there.
+#[tactic(auto, unfolding(crate::specs::Lines::tag_at, crate::specs::Lines::tag_to, crate::specs::Runs::is_at))]
+fn tag_at(line: &[u8], at: usize) -> Result<usize, Misread>
     requires { at ≤ length line.now }
-    ensures at_le_end { (at ≤ result.end) × (result.end ≤ length line.now) }
+    ensures within { MatchResult result (λ end. (at ≤ end) × (end ≤ length line.now)) (λ m. WordBetween at m (length line.now)) }
     ensures is { result ≡ Lines.tag_at line.now at }
 {
     if !runs::is_at(line, at, b'[') {
-        return Tag {
-            sound: true,
-            end: at,
-        };
+        return Ok(at);
     }
     let close = runs::end(line, Run::Tag, at);
     if close < line.len() {
-        return Tag {
-            sound: true,
-            end: close + 1,
-        };
+        return Ok(close + 1);
     }
-    Tag {
-        sound: false,
-        end: close,
-    }
+    Err(Misread {
+        fault: Fault::Tag,
+        from: at,
+        to: close,
+    })
 }
 
 // A tag decides what I and I_ERROR are, and they are refused without it.
-fn tag_verdict(name: Name, tag: &[u8]) -> Verdict
+#[tactic(auto, unfolding(crate::specs::Lines::tag_verdict))]
+fn tag_verdict(name: Name, tag: &[u8]) -> Result<(), Fault>
     ensures { result ≡ Lines.tag_verdict name tag.now }
 {
     match name {
-        Name::IError => {
-            if check::same(tag, b"[loss]") {
-                return Verdict::Sound;
-            }
-            Verdict::Bad(Fault::LossTag)
-        }
-        Name::I => {
-            if check::same(tag, b"[reset_loss]") {
-                return Verdict::Sound;
-            }
-            Verdict::Bad(Fault::ResetTag)
-        }
-        _ => Verdict::Sound,
+        Name::IError if check::same(tag, b"[loss]") => Ok(()),
+        Name::IError => Err(Fault::LossTag),
+        Name::I if check::same(tag, b"[reset_loss]") => Ok(()),
+        Name::I => Err(Fault::ResetTag),
+        _ => Ok(()),
     }
 }
 
 // ---- REPEAT
 
 // `{` at a place or after blanks.
+#[tactic(auto, unfolding(crate::specs::Lines::opened, crate::specs::Lines::opened_at, crate::specs::Runs::is_at))]
 fn opened(line: &[u8], times: u64, from: usize, at: usize) -> Line
     requires { (from ≤ at) × (at ≤ length line.now) }
     ensures read { Read line.now result }
@@ -128,6 +114,7 @@ fn opened(line: &[u8], times: u64, from: usize, at: usize) -> Line
 }
 
 // How often: from 1 on.
+#[tactic(auto, unfolding(crate::specs::Lines::repeated, crate::specs::Lines::times_at, crate::specs::Lines::times))]
 fn repeated(line: &[u8], from: usize, at: usize) -> Line
     requires { (from ≤ at) × (at ≤ length line.now) }
     ensures read { Read line.now result }
@@ -135,100 +122,100 @@ fn repeated(line: &[u8], from: usize, at: usize) -> Line
 {
     let digits = runs::end(line, Run::Blanks, at);
     let c = numbers::whole_at(line, digits);
-    let whole = c.whole;
-    let Whole::Is(times) = whole else {
-        return bad_word(line, Fault::Repeats, digits);
-    };
-    if times == 0 {
-        return bad_word(line, Fault::Repeats, digits);
+    match c.value {
+        Ok(0) | Err(_) => bad_word(line, Fault::Repeats, digits),
+        Ok(times) => opened(line, times, from, c.end),
     }
-    opened(line, times, from, c.end)
 }
 
 // ---- instructions
 
-fn is_tick(name: Name) -> bool
-    ensures { result ≡ Lines.is_name name Name.Tick }
-{
-    match name {
-        Name::Tick => true,
-        _ => false,
-    }
-}
-
 // TICK has no targets.
+#[tactic(auto, unfolding(crate::specs::Lines::targets_missing))]
 fn targets_missing(line: &[u8], name: Name, at: usize) -> bool
     requires { at ≤ length line.now }
     ensures { result ≡ Lines.targets_missing line.now name at }
 {
-    if is_tick(name) {
-        return runs::is_end(line, runs::end(line, Run::Blanks, at));
-    }
-    true
+    !matches!(name, Name::Tick) || runs::is_end(line, runs::end(line, Run::Blanks, at))
 }
 
-// An instruction whose arguments are read.
-fn called(line: &[u8], name: Name, from: usize, to: usize, rates: [f64; 15], at: usize) -> Line
-    requires { (from ≤ to) × (to ≤ length line.now) × (at ≤ length line.now) × (name ≡ Names.named (take (to - from) (drop from line.now))) }
-    ensures read { Read line.now result }
-    ensures is { result ≡ Lines.called line.now name from to rates at }
-{
-    if !runs::is_word_end(line, at) {
-        return bad_word(line, Fault::Blank, at);
-    }
-    if !targets_missing(line, name, at) {
-        return bad_word(line, Fault::Targets, runs::end(line, Run::Blanks, at));
-    }
-    Line {
-        item: names::item_of(name, rates),
-        from,
-        to,
-        targets: at,
-        rates,
-    }
+// A line whose name is read: what it names, and from where to where it stands.
+#[derive(Clone, Copy)]
+struct Front<'a> {
+    line: &'a [u8],
+    name: Name,
+    from: usize,
+    to: usize,
+    ghost within: { (from ≤ to) × (to ≤ length line.now) },
+    ghost spelled: { name ≡ Names.named (take (to - from) (drop from line.now)) },
 }
 
-// An instruction whose tag is read, up to `at`.
-fn with_arguments(line: &[u8], name: Name, from: usize, to: usize, at: usize) -> Line
-    requires { (from ≤ to) × (to ≤ at) × (at ≤ length line.now) × (name ≡ Names.named (take (to - from) (drop from line.now))) }
-    ensures read { Read line.now result }
-    ensures is { result ≡ Lines.with_arguments line.now name from to at }
-{
-    let a = arguments::arguments_at(line, at);
-    let verdict = a.verdict;
-    if let Verdict::Bad(fault) = verdict {
-        return plain(Item::Bad(fault), a.from, a.to);
-    }
-    let wanted = names::arguments_of(name);
-    if a.count != wanted {
-        return plain(Item::Bad(Fault::Arguments(wanted)), from, a.to);
-    }
-    let rates = a.rates;
-    called(line, name, from, to, rates, a.to)
-}
-
-// An instruction or REPEAT, whose name ends at `to`.
-fn with_tag(line: &[u8], name: Name, from: usize, to: usize) -> Line
-    requires { (from ≤ to) × (to ≤ length line.now) × (name ≡ Names.named (take (to - from) (drop from line.now))) }
-    ensures read { Read line.now result }
-    ensures is { result ≡ Lines.with_tag line.now name from to }
-{
-    let t = tag_at(line, to);
-    let at = t.end;
-    if !t.sound {
-        return plain(Item::Bad(Fault::Tag), to, at);
-    }
-    let verdict = tag_verdict(name, &line[to..at]);
-    if let Verdict::Bad(fault) = verdict {
-        return plain(Item::Bad(fault), from, at);
-    }
-    if let Name::Repeat = name {
-        if runs::is_word_end(line, at) {
-            return repeated(line, from, at);
+impl Front<'_> {
+    // An instruction whose arguments are read, up to `at`.
+    #[tactic(auto, unfolding(crate::specs::Lines::called))]
+    fn called(self, rates: [f64; 15], at: usize) -> Line
+        requires { at ≤ length self.line.now }
+        ensures read { Read self.entry.line.now result }
+        ensures is { result ≡ Lines.called self.entry.line.now self.entry.name self.entry.from self.entry.to rates at }
+    {
+        if !runs::is_word_end(self.line, at) {
+            return bad_word(self.line, Fault::Blank, at);
         }
-        return bad_word(line, Fault::Blank, at);
+        if !targets_missing(self.line, self.name, at) {
+            return bad_word(
+                self.line,
+                Fault::Targets,
+                runs::end(self.line, Run::Blanks, at),
+            );
+        }
+        Line {
+            item: names::item_of(self.name, rates),
+            from: self.from,
+            to: self.to,
+            targets: at,
+            rates,
+        }
     }
-    with_arguments(line, name, from, to, at)
+
+    // An instruction whose tag is read, up to `at`.
+    #[tactic(auto, unfolding(crate::specs::Lines::with_arguments, crate::specs::Lines::argued))]
+    fn with_arguments(self, at: usize) -> Line
+        requires { (self.to ≤ at) × (at ≤ length self.line.now) }
+        ensures read { Read self.entry.line.now result }
+        ensures is { result ≡ Lines.with_arguments self.entry.line.now self.entry.name self.entry.from self.entry.to at }
+    {
+        let a = match arguments::arguments_at(self.line, at) {
+            Ok(a) => a,
+            Err(m) => return plain(Item::Bad(m.fault), m.from, m.to),
+        };
+        let wanted = names::arguments_of(self.name);
+        if a.count != wanted {
+            return plain(Item::Bad(Fault::Arguments(wanted)), self.from, a.to);
+        }
+        self.called(a.rates, a.to)
+    }
+
+    // An instruction or REPEAT, whose tag is still to be read.
+    #[tactic(auto, unfolding(crate::specs::Lines::with_tag, crate::specs::Lines::tagged, crate::specs::Lines::judged, crate::specs::Lines::instruction))]
+    fn with_tag(self) -> Line
+        ensures read { Read self.entry.line.now result }
+        ensures is { result ≡ Lines.with_tag self.entry.line.now self.entry.name self.entry.from self.entry.to }
+    {
+        let at = match tag_at(self.line, self.to) {
+            Ok(at) => at,
+            Err(m) => return plain(Item::Bad(m.fault), m.from, m.to),
+        };
+        if let Err(fault) = tag_verdict(self.name, &self.line[self.to..at]) {
+            return plain(Item::Bad(fault), self.from, at);
+        }
+        if !matches!(self.name, Name::Repeat) {
+            return self.with_arguments(at);
+        }
+        if !runs::is_word_end(self.line, at) {
+            return bad_word(self.line, Fault::Blank, at);
+        }
+        repeated(self.line, self.from, at)
+    }
 }
 
 // Where the name that begins at a place ends.
@@ -245,6 +232,7 @@ pub fn is_closing(line: &[u8]) -> bool {
 }
 
 // What a line asks for, or what is wrong in it.
+#[tactic(auto, unfolding(crate::specs::Lines::line_of, crate::specs::Lines::line_from, crate::specs::Lines::with_name, crate::specs::Runs::is_at))]
 pub fn parse(line: &[u8]) -> Line
     ensures read { Read line.now result }
     ensures is { result ≡ Lines.line_of line.now }
@@ -258,8 +246,14 @@ pub fn parse(line: &[u8]) -> Line
     }
     let to = runs::end(line, Run::Name, from);
     let name = names::named(&line[from..to]);
-    if let Name::Other = name {
+    if matches!(name, Name::Other) {
         return bad_word(line, Fault::Name, from);
     }
-    with_tag(line, name, from, to)
+    let front = Front {
+        line,
+        name,
+        from,
+        to,
+    };
+    front.with_tag()
 }

@@ -108,17 +108,18 @@ pub struct Target {
     pub to: usize,
 }
 
-// Whether something is sound.
+// The word at fault, from where to where it stands.
 #[derive(Clone, Copy)]
-pub enum Verdict {
-    Sound,
-    Bad(Fault),
+pub struct Misread {
+    pub fault: Fault,
+    pub from: usize,
+    pub to: usize,
 }
 
 // All targets of a line: how many qubits they need, one more than the highest, 0 if there are none; or the first word at fault.
 #[derive(Clone, Copy)]
 pub struct Reach {
-    pub verdict: Verdict,
+    pub verdict: Result<(), Fault>,
     pub qubits: usize,
     pub from: usize,
     pub to: usize,

@@ -6,16 +6,14 @@ use crate::{Act, Item, Name};
 use model::Channel;
 
 // A letter's capital; any other byte as it is.
+#[tactic(auto, unfolding(crate::specs::Names::capital))]
 fn capital(b: u8) -> u8
     ensures { result ≡ Names.capital b }
 {
-    if b < b'a' {
-        return b;
+    match b {
+        b'a'..=b'z' => b - 32,
+        _ => b,
     }
-    if b'z' < b {
-        return b;
-    }
-    b - 32
 }
 
 // Whether a word is a name, in letters of any case.
@@ -25,17 +23,16 @@ pub fn is_named(word: &[u8], name: &[u8]) -> bool
     if word.len() != name.len() {
         return false;
     }
-    let mut i = 0;
-    while i < word.len() {
+    for i in 0..word.len() {
         if capital(word[i]) != name[i] {
             return false;
         }
-        i += 1;
     }
     true
 }
 
 // What a word names.
+#[tactic(auto, unfolding(crate::specs::Names::named))]
 pub fn named(word: &[u8]) -> Name
     ensures { result ≡ Names.named word.now }
 {
@@ -45,15 +42,13 @@ pub fn named(word: &[u8]) -> Name
     if is_named(word, b"S") {
         return Name::S;
     }
-    if is_named(word, b"CX") {
-        return Name::Cx;
-    }
-    if is_named(word, b"CNOT") {
+    if is_named(word, b"CX") || is_named(word, b"CNOT") {
         return Name::Cx;
     }
     named_error(word)
 }
 
+#[tactic(auto, unfolding(crate::specs::Names::named_error))]
 fn named_error(word: &[u8]) -> Name
     ensures { result ≡ Names.named_error word.now }
 {
@@ -72,6 +67,7 @@ fn named_error(word: &[u8]) -> Name
     named_channel(word)
 }
 
+#[tactic(auto, unfolding(crate::specs::Names::named_channel))]
 fn named_channel(word: &[u8]) -> Name
     ensures { result ≡ Names.named_channel word.now }
 {
@@ -90,6 +86,7 @@ fn named_channel(word: &[u8]) -> Name
     named_rest(word)
 }
 
+#[tactic(auto, unfolding(crate::specs::Names::named_rest))]
 fn named_rest(word: &[u8]) -> Name
     ensures { result ≡ Names.named_rest word.now }
 {
@@ -110,21 +107,12 @@ pub fn arguments_of(name: Name) -> usize
     ensures { result ≡ Names.arguments_of name }
 {
     match name {
-        Name::XError => 1,
-        Name::YError => 1,
-        Name::ZError => 1,
-        Name::IError => 1,
-        Name::Depolarize1 => 1,
-        Name::Depolarize2 => 1,
+        Name::XError | Name::YError | Name::ZError | Name::IError => 1,
+        Name::Depolarize1 | Name::Depolarize2 => 1,
         Name::PauliChannel1 => 3,
         Name::PauliChannel2 => 15,
-        Name::H => 0,
-        Name::S => 0,
-        Name::Cx => 0,
-        Name::I => 0,
-        Name::Tick => 0,
-        Name::Repeat => 0,
-        Name::Other => 0,
+        Name::H | Name::S | Name::Cx | Name::I | Name::Tick => 0,
+        Name::Repeat | Name::Other => 0,
     }
 }
 
@@ -147,9 +135,7 @@ pub fn item_of(name: Name, rates: [f64; 15]) -> Item
         Name::Depolarize1 => Item::Call(Act::Channel(Channel::Depolarizing(rates[0]))),
         Name::Depolarize2 => Item::Call(Act::Depolarize2(rates[0])),
         Name::I => Item::Call(Act::ResetLoss),
-        Name::Tick => Item::Nothing,
-        Name::Repeat => Item::Nothing,
-        Name::Other => Item::Nothing,
+        Name::Tick | Name::Repeat | Name::Other => Item::Nothing,
     }
 }
 
@@ -157,13 +143,5 @@ pub fn item_of(name: Name, rates: [f64; 15]) -> Item
 pub fn takes_pairs(act: Act) -> bool
     ensures { result ≡ Names.takes_pairs act }
 {
-    match act {
-        Act::Cnot => true,
-        Act::PauliPairs => true,
-        Act::Depolarize2(_) => true,
-        Act::H => false,
-        Act::S => false,
-        Act::Channel(_) => false,
-        Act::ResetLoss => false,
-    }
+    matches!(act, Act::Cnot | Act::PauliPairs | Act::Depolarize2(_))
 }

@@ -1,50 +1,33 @@
 // The numbers of a line, as crates/decimal reads them.
 ghost use Rattle.std.specs.Prelude.{◌≡◌, ◌≤◌, length};
-ghost use Rattle.circuit.specs.Numbers.{verdict_of, number_at, whole_of, count_at};
+ghost use Rattle.decimal.specs.Wholes.{whole_at};
+ghost use Rattle.circuit.specs.Numbers.{fault_of, number_at};
 
-use crate::{Fault, Verdict};
+use crate::Fault;
+use decimal::{DecimalError, Parsed};
 
-// A decimal number, and where it ends.
+// A decimal number or what is wrong with it, and where it ends.
 #[derive(Clone, Copy)]
 pub struct Number {
-    pub verdict: Verdict,
-    pub value: f64,
+    pub value: Result<f64, Fault>,
     pub end: usize,
 }
 
-// A whole number.
-#[derive(Clone, Copy)]
-pub enum Whole {
-    Is(u64),
-    // 2^64 or more.
-    Large,
-    // No digit.
-    Missing,
-}
+impl From<DecimalError> for Fault {
+    ghost from_gives = { λ error fault. fault ≡ fault_of error };
 
-// .. and where it ends.
-#[derive(Clone, Copy)]
-pub struct Count {
-    pub whole: Whole,
-    pub end: usize,
-}
-
-fn verdict_of(status: u64) -> Verdict
-    ensures { result ≡ verdict_of status }
-{
-    if status == 0 {
-        return Verdict::Sound;
+    #[tactic(auto, unfolding(crate::specs::Numbers::fault_of))]
+    fn from(error: DecimalError) -> Fault {
+        match error {
+            DecimalError::NoNumber => Fault::Number,
+            DecimalError::TooLarge => Fault::Digits,
+            DecimalError::Infinite => Fault::Infinite,
+        }
     }
-    if status == 2 {
-        return Verdict::Bad(Fault::Digits);
-    }
-    if status == 3 {
-        return Verdict::Bad(Fault::Infinite);
-    }
-    Verdict::Bad(Fault::Number)
 }
 
 // The decimal number at a place, whatever follows it.
+#[tactic(auto, unfolding(crate::specs::Numbers::number_at, crate::specs::Numbers::value_of))]
 pub fn number_at(line: &[u8], from: usize) -> Number
     requires { from ≤ length line.now }
     ensures from_le_end { (from ≤ result.end) × (result.end ≤ length line.now) }
@@ -52,33 +35,16 @@ pub fn number_at(line: &[u8], from: usize) -> Number
 {
     let d = decimal::decimal(line, from);
     Number {
-        verdict: verdict_of(d.status),
-        value: d.value,
+        value: d.value.map_err(Fault::from),
         end: d.end,
     }
 }
 
 // The whole number at a place, whatever follows it.
-pub fn whole_at(line: &[u8], from: usize) -> Count
+pub fn whole_at(line: &[u8], from: usize) -> Parsed<u64>
     requires { from ≤ length line.now }
     ensures from_le_end { (from ≤ result.end) × (result.end ≤ length line.now) }
-    ensures is { result ≡ count_at line.now from }
+    ensures is { result ≡ whole_at line.now from }
 {
-    let w = decimal::whole(line, from);
-    Count {
-        whole: whole_of(w.status, w.value),
-        end: w.end,
-    }
-}
-
-fn whole_of(status: u64, value: u64) -> Whole
-    ensures { result ≡ whole_of status value }
-{
-    if status == 0 {
-        return Whole::Is(value);
-    }
-    if status == 2 {
-        return Whole::Large;
-    }
-    Whole::Missing
+    decimal::whole(line, from)
 }

@@ -1,6 +1,6 @@
 // Runs of bytes: blanks, names, words.
 ghost use Rattle.std.specs.Prelude.{◌≡◌, ◌≤◌, length};
-ghost use Rattle.circuit.specs.Runs.{is_blank, ends_word, is_between, is_of_name, is_of_argument, is_of, run_end, is_end, is_word_end, is_at};
+ghost use Rattle.circuit.specs.Runs.{is_blank, ends_word, is_of_name, is_of_argument, is_of, run_end, is_end, is_word_end, is_at};
 
 // What a run is of.
 #[derive(Clone, Copy)]
@@ -17,64 +17,36 @@ pub enum Run {
     Tag,
 }
 
+#[tactic(auto, unfolding(crate::specs::Runs::is_blank))]
 pub fn is_blank(b: u8) -> bool
     ensures { result ≡ is_blank b }
 {
-    if b == b' ' {
-        return true;
-    }
-    if b == b'\t' {
-        return true;
-    }
-    b == b'\r'
+    matches!(b, b' ' | b'\t' | b'\r')
 }
 
 // A byte up to which a word goes.
+#[tactic(auto, unfolding(crate::specs::Runs::ends_word))]
 fn ends_word(b: u8) -> bool
     ensures { result ≡ ends_word b }
 {
-    if b == b'#' {
-        return true;
-    }
-    is_blank(b)
+    b == b'#' || is_blank(b)
 }
 
-fn is_between(b: u8, low: u8, high: u8) -> bool
-    ensures { result ≡ is_between b low high }
-{
-    if b < low {
-        return false;
-    }
-    b <= high
-}
-
+#[tactic(auto, unfolding(crate::specs::Runs::is_of_name, crate::specs::Runs::is_between))]
 fn is_of_name(b: u8) -> bool
     ensures { result ≡ is_of_name b }
 {
-    if is_between(b, b'A', b'Z') {
-        return true;
-    }
-    if is_between(b, b'a', b'z') {
-        return true;
-    }
-    if is_between(b, b'0', b'9') {
-        return true;
-    }
-    b == b'_'
+    matches!(b, b'A'..=b'Z' | b'a'..=b'z' | b'0'..=b'9' | b'_')
 }
 
+#[tactic(auto, unfolding(crate::specs::Runs::is_of_argument))]
 fn is_of_argument(b: u8) -> bool
     ensures { result ≡ is_of_argument b }
 {
-    if b == b',' {
-        return false;
-    }
-    if b == b')' {
-        return false;
-    }
-    !ends_word(b)
+    b != b',' && b != b')' && !ends_word(b)
 }
 
+#[tactic(auto, unfolding(crate::specs::Runs::is_of))]
 fn is_of(run: Run, b: u8) -> bool
     ensures { result ≡ is_of run b }
 {
@@ -93,42 +65,34 @@ pub fn end(line: &[u8], run: Run, at: usize) -> usize
     ensures lower_bound { (at ≤ result) × (result ≤ length line.now) }
     ensures is { result ≡ run_end (is_of run) line.now at }
 {
-    let mut i = at;
-    while i < line.len() {
+    for i in at..line.len() {
         if !is_of(run, line[i]) {
             return i;
         }
-        i += 1;
     }
-    i
+    line.len()
 }
 
 // Whether the byte at a place is this one.
+#[tactic(auto, unfolding(crate::specs::Runs::is_at))]
 pub fn is_at(line: &[u8], at: usize, b: u8) -> bool
     ensures { result ≡ is_at line.now at b }
 {
-    if at < line.len() {
-        return line[at] == b;
-    }
-    false
+    at < line.len() && line[at] == b
 }
 
 // Nothing, or a comment, stands at a place.
+#[tactic(auto, unfolding(crate::specs::Runs::is_end))]
 pub fn is_end(line: &[u8], at: usize) -> bool
     ensures { result ≡ is_end line.now at }
 {
-    if at < line.len() {
-        return line[at] == b'#';
-    }
-    true
+    line.len() <= at || line[at] == b'#'
 }
 
 // .. or a blank.
+#[tactic(auto, unfolding(crate::specs::Runs::is_word_end))]
 pub fn is_word_end(line: &[u8], at: usize) -> bool
     ensures { result ≡ is_word_end line.now at }
 {
-    if at < line.len() {
-        return ends_word(line[at]);
-    }
-    true
+    line.len() <= at || ends_word(line[at])
 }

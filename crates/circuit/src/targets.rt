@@ -3,9 +3,9 @@ ghost use Rattle.std.specs.Prelude.{◌≡◌, ◌≤◌, ◌<◌, length};
 ghost use Rattle.circuit.specs.Places.{Stepped, Onward};
 ghost use Rattle.circuit.specs.Targets as Targets;
 
-use crate::numbers::Whole;
 use crate::runs::Run;
-use crate::{Fault, Reach, Seen, Target, Verdict, numbers, runs};
+use crate::{Fault, Reach, Seen, Target, numbers, runs};
+use decimal::DecimalError;
 
 fn bad(fault: Fault, from: usize, to: usize) -> Target
     ensures { result ≡ Targets.bad fault from to }
@@ -18,8 +18,9 @@ fn bad(fault: Fault, from: usize, to: usize) -> Target
 }
 
 // The qubit of a number, if there is one.
+#[tactic(auto, unfolding(crate::specs::Targets::qubit_of))]
 fn qubit_of(v: u64, from: usize, to: usize) -> Target
-    ensures { result ≡ Targets.qubit_of (Whole.Is v) from to }
+    ensures { result ≡ Targets.qubit_of (Ok v) from to }
 {
     if 64 <= v {
         return bad(Fault::Range, from, to);
@@ -33,27 +34,25 @@ fn qubit_of(v: u64, from: usize, to: usize) -> Target
 }
 
 // The qubit at a place, where there is something.
+#[tactic(auto, unfolding(crate::specs::Targets::qubit_at, crate::specs::Targets::qubit_in, crate::specs::Targets::qubit_of))]
 fn qubit_at(line: &[u8], from: usize) -> Target
     requires { from ≤ length line.now }
     ensures { result ≡ Targets.qubit_at line.now from }
 {
     let word = runs::end(line, Run::Word, from);
     let c = numbers::whole_at(line, from);
-    let whole = c.whole;
-    if c.end != word {
+    if c.end != word || word == from {
         return bad(Fault::Qubit, from, word);
     }
-    if word == from {
-        return bad(Fault::Qubit, from, word);
-    }
-    match whole {
-        Whole::Is(v) => qubit_of(v, from, word),
-        Whole::Large => bad(Fault::Range, from, word),
-        Whole::Missing => bad(Fault::Qubit, from, word),
+    match c.value {
+        Ok(v) => qubit_of(v, from, word),
+        Err(DecimalError::TooLarge) => bad(Fault::Range, from, word),
+        Err(_) => bad(Fault::Qubit, from, word),
     }
 }
 
 // The next qubit.
+#[tactic(auto, unfolding(crate::specs::Targets::next_qubit, crate::specs::Targets::qubit_from))]
 fn next_qubit(line: &[u8], at: usize) -> Target
     requires { at ≤ length line.now }
     ensures { result ≡ Targets.next_qubit line.now at }
@@ -70,21 +69,21 @@ fn next_qubit(line: &[u8], at: usize) -> Target
 }
 
 // The second qubit of a pair.
+#[tactic(auto, unfolding(crate::specs::Targets::second_at, crate::specs::Targets::pair_with))]
 fn second(line: &[u8], p: usize, from: usize, at: usize) -> Target
     requires { at ≤ length line.now }
     ensures { result ≡ Targets.second_at line.now p from at }
 {
     let b = next_qubit(line, at);
-    let seen = b.seen;
-    let to = b.to;
-    match seen {
+    match b.seen {
         Seen::End => bad(Fault::Half, from, at),
-        Seen::Bad(fault) => bad(fault, b.from, to),
-        Seen::At(q, _) => pair_of(p, q, from, to),
+        Seen::Bad(fault) => bad(fault, b.from, b.to),
+        Seen::At(q, _) => pair_of(p, q, from, b.to),
     }
 }
 
 // Two qubits, if they differ.
+#[tactic(auto, unfolding(crate::specs::Targets::pair_of))]
 fn pair_of(p: usize, q: usize, from: usize, to: usize) -> Target
     ensures { result ≡ Targets.pair_of p q from to }
 {
@@ -99,19 +98,20 @@ fn pair_of(p: usize, q: usize, from: usize, to: usize) -> Target
 }
 
 // The next pair.
+#[tactic(auto, unfolding(crate::specs::Targets::next_pair, crate::specs::Targets::pair_after))]
 fn next_pair(line: &[u8], at: usize) -> Target
     requires { at ≤ length line.now }
     ensures { result ≡ Targets.next_pair line.now at }
 {
     let a = next_qubit(line, at);
-    let seen = a.seen;
-    if let Seen::At(p, _) = seen {
-        return second(line, p, a.from, a.to);
+    match a.seen {
+        Seen::At(p, _) => second(line, p, a.from, a.to),
+        _ => a,
     }
-    a
 }
 
 // The next qubit or pair.
+#[tactic(auto, unfolding(crate::specs::Targets::target_at))]
 fn next(line: &[u8], at: usize, pairs: bool) -> Target
     requires { at ≤ length line.now }
     ensures stepped { Stepped (length line.now) at result }
@@ -138,17 +138,7 @@ pub fn target(line: &[u8], at: usize, pairs: bool) -> Target
     }
 }
 
-fn more(qubits: usize, q: usize) -> usize
-    requires { (qubits ≤ 64) × (q < 64) }
-    ensures { result ≤ 64 }
-{
-    if qubits <= q {
-        return q + 1;
-    }
-    qubits
-}
-
-fn reached(verdict: Verdict, qubits: usize, from: usize, to: usize) -> Reach
+fn reached(verdict: Result<(), Fault>, qubits: usize, from: usize, to: usize) -> Reach
     ensures { (result.qubits ≡ qubits) × (result.from ≡ from) × (result.to ≡ to) }
 {
     Reach {
@@ -168,17 +158,15 @@ fn reach_from(line: &[u8], from: usize, pairs: bool, limit: usize) -> Reach
     let mut at = from;
     loop {
         let t = next(line, at, pairs);
-        let seen = t.seen;
-        if let Seen::Bad(fault) = seen {
-            return reached(Verdict::Bad(fault), qubits, t.from, t.to);
-        }
-        let Seen::At(p, q) = seen else {
-            return reached(Verdict::Sound, qubits, t.from, t.to);
+        let (p, q) = match t.seen {
+            Seen::At(p, q) => (p, q),
+            Seen::Bad(fault) => return reached(Err(fault), qubits, t.from, t.to),
+            Seen::End => return reached(Ok(()), qubits, t.from, t.to),
         };
         at = t.to;
-        qubits = more(more(qubits, p), q);
+        qubits = qubits.max(p + 1).max(q + 1);
         if limit < qubits {
-            return reached(Verdict::Bad(Fault::Outside(limit)), qubits, t.from, at);
+            return reached(Err(Fault::Outside(limit)), qubits, t.from, at);
         }
     }
 }
@@ -190,5 +178,5 @@ pub fn reach(line: &[u8], targets: usize, pairs: bool, limit: usize) -> Reach
     if targets <= line.len() {
         return reach_from(line, targets, pairs, limit);
     }
-    reached(Verdict::Sound, 0, targets, targets)
+    reached(Ok(()), 0, targets, targets)
 }

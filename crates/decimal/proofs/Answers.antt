@@ -6,6 +6,7 @@ use mathlib.Core.Logic.{inl, inr}
 use Prim.Native.Nat.{ℕ, ◌+◌, ◌*◌, ◌-◌, ◌^◌, ◌≤◌, ◌<◌}
 use native.Mathlib.Nat.{mul-one, zero-mul, eq-zero-or-pos}
 use native.Mathlib.Omega.{arith}
+use Rattle.std.specs.Prelude.{Ok}
 use lib.Dec.{eqb, ltb}
 use lib.Ieee.{Float, binary64, round, of_bits}
 use lib.Ieee.Scale.{finite}
@@ -18,17 +19,18 @@ use Rattle.decimal.specs.Decimals.{minus, sign_end, significand_at, exponent_at,
 use Rattle.decimal.specs.Bounds.{largest, capped, capped_significand, capped_exponent}
 use Rattle.decimal.specs.declared.Significand.{Significand}
 use Rattle.decimal.specs.declared.Exponent.{Exponent}
-use Rattle.decimal.specs.declared.answer.Decimal.{Decimal}
+use Rattle.decimal.specs.declared.answer.Parsed.{Parsed}
+use Rattle.decimal.specs.declared.answer.DecimalError.TheVariants.{NoNumber, TooLarge, Infinite}
 use Rattle.decimal.proofs.Runs.{capped_small, capped-large}
 
 -- ---- a size that is rounded
 
 module _ (negative : Bool) (size : Float) (end : ℕ) where
-  pub is_finite : (v : Float) → finite size ≡ true → v ≡ signed negative size → record { status = 0; value = v; end = end } ≡ answer_for negative size end
+  pub is_finite : (v : Float) → finite size ≡ true → v ≡ signed negative size → record { value = Ok v; end = end } ≡ answer_for negative size end
   unfolding answer_for
   is_finite v f e = rw (f, e)
 
-  pub is-infinite : finite size ≡ false → refused 3 end ≡ answer_for negative size end
+  pub is-infinite : finite size ≡ false → refused Infinite end ≡ answer_for negative size end
   unfolding answer_for
   is-infinite f = rw f
 
@@ -58,7 +60,7 @@ module _ (negative : Bool) (m end : ℕ) where
 -- ---- the cases of an answer
 
 module _ (negative : Bool) (m f : ℕ) (x : Exponent) where
-  pub too_many : digit_limit ≤ m → refused 2 x.end ≡ answer_of negative m f x
+  pub too_many : digit_limit ≤ m → refused TooLarge x.end ≡ answer_of negative m f x
   unfolding answer_of
   too_many h = rw (le-ltb m digit_limit h)
 
@@ -86,7 +88,7 @@ module _ (negative : Bool) (m f : ℕ) (x : Exponent) where
 -- ---- numbers that are capped
 
 module _ (negative : Bool) (m f end : ℕ) (fits : f < 2 ^ 63) (h : m < digit_limit) where
-  abbrev of : Bool → ℕ → Decimal
+  abbrev of : Bool → ℕ → Parsed Float
   of n s = scaled negative m (up n s f) (down n s f) end
 
   -- one large exponent is as another
@@ -113,7 +115,7 @@ module _ (negative : Bool) (m f : ℕ) (x : Exponent) where
   capped-exponent h = go (ltb m digit_limit) refl
     where
       go : (t : Bool) → ltb m digit_limit ≡ t → answer_of negative m f (capped_exponent x) ≡ answer_of negative m f x
-      go true e = ap (λ (d : Decimal). cond (ltb m digit_limit) d (refused 2 x.end)) (capped-size negative m f x.end h (ltb-true m digit_limit e) x.negative x.size)
+      go true e = ap (λ (d : Parsed Float). cond (ltb m digit_limit) d (refused TooLarge x.end)) (capped-size negative m f x.end h (ltb-true m digit_limit e) x.negative x.size)
       go false e =
           let l : digit_limit ≤ m = ltb-false m digit_limit e in
           sym (too_many negative m f (capped_exponent x) l) ∙ too_many negative m f x l
@@ -153,7 +155,7 @@ module _ (text : List ℕ) (from start : ℕ) (b : start ≡ sign_end text from)
   unfolding capped_significand
   ended = ap (λ (q : Significand). q.end) here
 
-  pub no_number : s.digits ≡ 0 → refused 1 from ≡ decimal_at text from
+  pub no_number : s.digits ≡ 0 → refused NoNumber from ≡ decimal_at text from
   unfolding decimal_at
   no_number z = rw (eq-eqb S.digits 0 (sym counted ∙ z))
 

@@ -6,7 +6,7 @@ use Prim.Native.Nat.{ℕ, ◌+◌, ◌*◌, ◌^◌, ◌≤◌, ◌<◌}
 use native.Mathlib.Nat.{lt_of_not-le}
 use native.Mathlib.Omega.{arith}
 use lib.Dec.{eqb, ltb}
-use lib.Ieee.{binary64, round}
+use lib.Ieee.{Float, binary64, round}
 use lib.Ieee.Scale.{finite}
 use lib.ListN.{length, drop, length-drop, get_or-eq_default}
 use Rattle.nearest.specs.Large.{digit_limit}
@@ -16,8 +16,7 @@ use Rattle.decimal.specs.Decimals.{minus, point, is_sign, is_exponent, sign_end,
 use Rattle.decimal.specs.Bounds.{Within}
 use Rattle.decimal.specs.declared.Significand.{Significand}
 use Rattle.decimal.specs.declared.Exponent.{Exponent}
-use Rattle.decimal.specs.declared.answer.Decimal.{Decimal}
-use Rattle.decimal.specs.declared.answer.Whole.{Whole}
+use Rattle.decimal.specs.declared.answer.Parsed.{Parsed}
 
 -- a byte that passes a test which 0 does not pass is in the text
 pub inside : (text : List ℕ) (i : ℕ) (p : ℕ → Bool) → p 0 ≡ false → p (byte_at text i) ≡ true → i < length text
@@ -92,9 +91,9 @@ module _ (text : List ℕ) where
   answer-end : (negative : Bool) (m f : ℕ) (x : Exponent) → (answer_of negative m f x).end ≡ x.end
   unfolding answer_of scaled answer_for
   answer-end negative m f x =
-      by-test (λ (d : Decimal). d.end ≡ x.end) (ltb m digit_limit) _ _
+      by-test (λ (d : Parsed Float). d.end ≡ x.end) (ltb m digit_limit) _ _
       (λ e.
-      by-test (λ (d : Decimal). d.end ≡ x.end)
+      by-test (λ (d : Parsed Float). d.end ≡ x.end)
       (finite (round binary64 false (m * 10 ^ up x.negative x.size f) (10 ^ down x.negative x.size f)))
       _
       _
@@ -108,7 +107,7 @@ module _ (text : List ℕ) where
       let start = sign_end text from in
       let s = significand_at text start in
       let x = exponent_at text s.end in
-      by-test (λ (d : Decimal). Within from n d.end) (eqb s.digits 0) _ _
+      by-test (λ (d : Parsed Float). Within from n d.end) (eqb s.digits 0) _ _
       (λ e. here from n)
       (λ e.
       subst (λ (k : ℕ). Within from n k) (sym (answer-end (eqb (byte_at text from) minus) s.value s.after x))
@@ -117,6 +116,6 @@ module _ (text : List ℕ) where
   pub whole-within : (from : ℕ) → Within from n (whole_at text from).end
   unfolding whole_at
   whole-within from =
-      by-test (λ (w : Whole). Within from n w.end) (eqb (length (digits_at text from)) 0) _ _
+      by-test (λ (w : Parsed ℕ). Within from n w.end) (eqb (length (digits_at text from)) 0) _ _
       (λ e. here from n)
-      (λ e. by-test (λ (w : Whole). Within from n w.end) (ltb (number (digits_at text from)) (2 ^ 64)) _ _ (λ k. digits-within from) (λ k. digits-within from))
+      (λ e. by-test (λ (w : Parsed ℕ). Within from n w.end) (ltb (number (digits_at text from)) (2 ^ 64)) _ _ (λ k. digits-within from) (λ k. digits-within from))

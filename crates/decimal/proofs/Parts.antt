@@ -5,6 +5,7 @@ use mathlib.Core.List.{List, [], ◌∷◌, ◌++◌}
 use Prim.Native.Nat.{ℕ, ◌+◌, ◌*◌, ◌-◌, ◌^◌, ◌≤◌, ◌<◌}
 use native.Mathlib.Nat.{add-zero}
 use native.Mathlib.Omega.{arith}
+use Rattle.std.specs.Prelude.{Result, Ok, Err}
 use lib.Dec.{eqb, ltb}
 use lib.ListN.{length, length-append}
 use borrow.Author.Tests.{eq-eqb, ne_eqb, lt-ltb, le-ltb, ltb-true, ltb-false}
@@ -15,7 +16,9 @@ use Rattle.decimal.specs.Bounds.{largest, capped, run_at, capped_significand, ca
 use Rattle.decimal.specs.declared.Run.{Run}
 use Rattle.decimal.specs.declared.Significand.{Significand}
 use Rattle.decimal.specs.declared.Exponent.{Exponent}
-use Rattle.decimal.specs.declared.answer.Whole.{Whole}
+use Rattle.decimal.specs.declared.answer.Parsed.{Parsed}
+use Rattle.decimal.specs.declared.answer.DecimalError.{DecimalError}
+use Rattle.decimal.specs.declared.answer.DecimalError.TheVariants.{NoNumber, TooLarge}
 use Rattle.decimal.proofs.Runs.{capped_small, capped-from}
 
 number_append : (v : ℕ) (a b : List ℕ) → number_from v (a ++ b) ≡ number_from (number_from v a) b
@@ -113,8 +116,8 @@ module _ (text : List ℕ) (i : ℕ) where
 -- ---- a whole number
 
 module _ (text : List ℕ) (from : ℕ) (r : Run) (e : r ≡ run_at text from 0) where
-  abbrev answer : ℕ → ℕ → ℕ → Whole
-  answer status value end = record { status = status; value = value; end = end }
+  abbrev answer : Result ℕ DecimalError → ℕ → Parsed ℕ
+  answer value end = record { value = value; end = end }
 
   stops : r.end ≡ digits_end text from
   stops = run_end-is text from 0 r e
@@ -123,17 +126,17 @@ module _ (text : List ℕ) (from : ℕ) (r : Run) (e : r ≡ run_at text from 0)
   unfolding run_at
   is-large = ap (λ (q : Run). q.large) e
 
-  pub no_digit : r.end ≡ from → answer 1 0 from ≡ whole_at text from
+  pub no_digit : r.end ≡ from → answer (Err NoNumber) from ≡ whole_at text from
   unfolding whole_at
   no_digit z = rw (none_read text from (sym stops ∙ z))
 
-  pub large-whole : (r.end ≡ from → ⊥) → r.large ≡ true → answer 2 0 r.end ≡ whole_at text from
+  pub large-whole : (r.end ≡ from → ⊥) → r.large ≡ true → answer (Err TooLarge) r.end ≡ whole_at text from
   unfolding whole_at
   large-whole z l =
       let g : largest < number (digits_at text from) = ltb-true largest (number (digits_at text from)) (sym is-large ∙ l) in
       rw (some_read text from (λ q. z (stops ∙ q)), le-ltb (number (digits_at text from)) (2 ^ 64) (omega arith), stops)
 
-  pub whole-read : (r.end ≡ from → ⊥) → r.large ≡ false → answer 0 r.value r.end ≡ whole_at text from
+  pub whole-read : (r.end ≡ from → ⊥) → r.large ≡ false → answer (Ok r.value) r.end ≡ whole_at text from
   unfolding whole_at
   whole-read z l =
       let g : number (digits_at text from) ≤ largest = ltb-false largest (number (digits_at text from)) (sym is-large ∙ l) in

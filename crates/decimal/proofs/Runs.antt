@@ -8,7 +8,7 @@ use native.Mathlib.Omega.{arith}
 use lib.Dec.{ltb}
 use lib.ListN.{length, get_or, drop, drop_of_length-le}
 use lib.Seq.{drop-cons}
-use borrow.Author.Tests.{lt-ltb, le-ltb, ltb-true, ltb-false, le-leb, lt-leb}
+use borrow.Author.Tests.{lt-ltb, le-ltb, ltb-true, ltb-false, le-leb}
 use Rattle.decimal.specs.Digits.{is_digit, digits, digits_at, digits_end, number_from}
 use Rattle.decimal.specs.Bounds.{largest, capped, run_at}
 use Rattle.decimal.specs.declared.Run.{Run}
@@ -18,14 +18,6 @@ use Rattle.decimal.specs.declared.Run.{Run}
 is_digit-true : (b : ℕ) → 48 ≤ b → b ≤ 57 → is_digit b ≡ true
 unfolding is_digit
 is_digit-true b l h = rw (le-leb 48 b l) (le-leb b 57 h)
-
-below : (b : ℕ) → b < 48 → is_digit b ≡ false
-unfolding is_digit
-below b h = rw (lt-leb 48 b h)
-
-above : (b : ℕ) → 48 ≤ b → 57 < b → is_digit b ≡ false
-unfolding is_digit
-above b l h = rw (le-leb 48 b l) (lt-leb b 57 h)
 
 module _ (text : List ℕ) (i : ℕ) where
   first : i < length text → digits_at text i ≡ cond (is_digit (get_or text i 0)) (get_or text i 0 ∷ digits_at text (i + 1)) []
@@ -37,14 +29,8 @@ module _ (text : List ℕ) (i : ℕ) where
       first h ∙ ap (λ (t : Bool). cond t (get_or text i 0 ∷ digits_at text (i + 1)) []) (is_digit-true (get_or text i 0) l k)
 
   -- no digit stands there
-  other-first : is_digit (get_or text i 0) ≡ false → i < length text → digits_at text i ≡ []
+  pub other-first : is_digit (get_or text i 0) ≡ false → i < length text → digits_at text i ≡ []
   other-first e h = first h ∙ ap (λ (t : Bool). cond t (get_or text i 0 ∷ digits_at text (i + 1)) []) e
-
-  pub below-first : i < length text → get_or text i 0 < 48 → digits_at text i ≡ []
-  below-first h b = other-first (below (get_or text i 0) b) h
-
-  pub above-first : i < length text → 48 ≤ get_or text i 0 → 57 < get_or text i 0 → digits_at text i ≡ []
-  above-first h l b = other-first (above (get_or text i 0) l b) h
 
   pub past_end : length text ≤ i → digits_at text i ≡ []
   unfolding digits
@@ -97,7 +83,7 @@ pub left-all : (text : List ℕ) (i before : ℕ) → left text i before false �
 unfolding left run_at
 left-all text i before = refl
 
-abbrev run : ℕ → Bool → ℕ → Run
+abbrev pub run : ℕ → Bool → ℕ → Run
 run value large end = record { value = value; large = large; end = end }
 
 or-false : (b : Bool) → (b || false) ≡ b

@@ -1,14 +1,16 @@
 -- A decimal at a place of a text: optionally a sign; digits, and optionally a point and digits, with one digit or more in all;
 -- optionally an e, a sign if there is one, and one digit or more. Its value is rounded once. Assumes nothing.
-use Rattle.std.specs.Prelude.{ℕ, ◌+◌, ◌*◌, ◌-◌, ◌^◌, Bool, false, cond, not, ◌&&◌, ◌||◌, List, [], ◌++◌, eqb, ltb, length, Float}
+use Rattle.std.specs.Prelude.{ℕ, ◌+◌, ◌*◌, ◌-◌, ◌^◌, Bool, false, cond, not, ◌&&◌, ◌||◌, List, [], ◌++◌, eqb, ltb, length, Float, Ok, Err}
 use Rattle.std.specs.Float.{binary64}
-use Rattle.std.specs.Float.Ieee.{of_bits, round, neg}
+use Rattle.std.specs.Float.Ieee.{round, neg}
 use Rattle.std.specs.Float.Ieee.Scale.{finite}
 use Rattle.nearest.specs.Large.{digit_limit}
 use Rattle.decimal.specs.Digits.{byte_at, digits_at, digits_end, number}
 use Rattle.decimal.specs.declared.Significand.{Significand}
 use Rattle.decimal.specs.declared.Exponent.{Exponent}
-use Rattle.decimal.specs.declared.answer.Decimal.{Decimal}
+use Rattle.decimal.specs.declared.answer.Parsed.{Parsed}
+use Rattle.decimal.specs.declared.answer.DecimalError.{DecimalError}
+use Rattle.decimal.specs.declared.answer.DecimalError.TheVariants.{NoNumber, TooLarge, Infinite}
 
 -- ---- the parts of its text
 
@@ -68,28 +70,28 @@ signed negative x = cond negative (neg x) x
 -- ---- the answer
 
 -- no number, or one that is not taken
-abbrev pub refused : ℕ → ℕ → Decimal
-refused status end = record { status = status; value = of_bits binary64 0; end = end }
+abbrev pub refused : DecimalError → ℕ → Parsed Float
+refused error end = record { value = Err error; end = end }
 
--- 3: its size is infinite, rounded
-unfoldable pub answer_for : Bool → Float → ℕ → Decimal
-answer_for negative size end = cond (finite size) (record { status = 0; value = signed negative size; end = end }) (refused 3 end)
+-- Infinite: its size is, rounded
+unfoldable pub answer_for : Bool → Float → ℕ → Parsed Float
+answer_for negative size end = cond (finite size) (record { value = Ok (signed negative size); end = end }) (refused Infinite end)
 
 -- the f64 nearest to m × 10^up / 10^down, with the sign applied
-unfoldable pub scaled : Bool → ℕ → ℕ → ℕ → ℕ → Decimal
+unfoldable pub scaled : Bool → ℕ → ℕ → ℕ → ℕ → Parsed Float
 scaled negative m up down end = answer_for negative (round binary64 false (m * 10 ^ up) (10 ^ down)) end
 
--- 2: the digits write 10^19 or more
-unfoldable pub answer_of : Bool → ℕ → ℕ → Exponent → Decimal
+-- TooLarge: the digits write 10^19 or more
+unfoldable pub answer_of : Bool → ℕ → ℕ → Exponent → Parsed Float
 answer_of negative m f x =
     cond (ltb m digit_limit)
     (scaled negative m (up x.negative x.size f) (down x.negative x.size f) x.end)
-    (refused 2 x.end)
+    (refused TooLarge x.end)
 
--- 1: no digit stands there
-unfoldable pub decimal_at : List ℕ → ℕ → Decimal
+-- NoNumber: no digit stands there
+unfoldable pub decimal_at : List ℕ → ℕ → Parsed Float
 decimal_at text from =
     let s = significand_at text (sign_end text from) in
     cond (eqb s.digits 0)
-    (refused 1 from)
+    (refused NoNumber from)
     (answer_of (eqb (byte_at text from) minus) s.value s.after (exponent_at text s.end))

@@ -1,18 +1,19 @@
 // What is read at a place of a text.
 
-// status 0: a number, and `value` is the f64 nearest to it; 1: no number stands there; 2: its digits before the exponent write 10^19 or
-// more; 3: the nearest f64 is infinite. `end` is where the number's text ends. Of 1, 2 and 3 `value` is 0.
+// Why no number is read.
 #[derive(Clone, Copy)]
-pub struct Decimal {
-    pub status: u64,
-    pub value: f64,
-    pub end: usize,
+pub enum DecimalError {
+    // No number stands there.
+    NoNumber,
+    // A decimal's digits before the exponent write 10^19 or more; a whole number is 2^64 or more.
+    TooLarge,
+    // The f64 nearest to a decimal is infinite.
+    Infinite,
 }
 
-// status 0: a number, which is `value`; 1: no digit stands there; 2: the number is 2^64 or more. `end` and `value` as above.
+// A number, which of a decimal is the f64 nearest to it, or why there is none; and where its text ends.
 #[derive(Clone, Copy)]
-pub struct Whole {
-    pub status: u64,
-    pub value: u64,
+pub struct Parsed<T> {
+    pub value: Result<T, DecimalError>,
     pub end: usize,
 }

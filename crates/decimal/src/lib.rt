@@ -13,9 +13,10 @@ ghost use Rattle.decimal.specs.Decimals.{is_sign, sign_end, is_exponent, signifi
 ghost use Rattle.decimal.specs.Wholes.{whole_at};
 ghost use Rattle.decimal.specs.Bounds.{run_at, capped_significand, capped_exponent, Within};
 
-pub use answer::{Decimal, Whole};
+pub use answer::{DecimalError, Parsed};
 
 // The digits at a place, and the number that they write after those of a number before them: at most 2^64 - 1, and `large` if it is more.
+// No Option: significands and exponents go on with 2^64 - 1 where it is more, and `whole` alone asks whether it is.
 #[derive(Clone, Copy)]
 struct Run {
     value: u64,
@@ -46,10 +47,7 @@ struct Exponent {
 fn byte_at(text: &[u8], at: usize) -> u8
     ensures { result ≡ byte_at text.now at }
 {
-    if at < text.len() {
-        return text[at];
-    }
-    0
+    text.get(at).copied().unwrap_or(0)
 }
 
 // The digits from `from` on, after the number `before`.
@@ -58,27 +56,18 @@ fn digits_at(text: &[u8], from: usize, before: u64) -> Run
 {
     let mut value = before;
     let mut large = false;
-    let mut at = from;
-    while at < text.len() {
+    for at in from..text.len() {
         let b = text[at];
-        if b < 48 {
+        if !b.is_ascii_digit() {
             return Run {
                 value,
                 large,
                 end: at,
             };
         }
-        if 57 < b {
-            return Run {
-                value,
-                large,
-                end: at,
-            };
-        }
-        at += 1;
-        let d = (b - 48) as u64;
-        if (0xffff_ffff_ffff_ffff - d) / 10 < value {
-            value = 0xffff_ffff_ffff_ffff;
+        let d = u64::from(b - b'0');
+        if (u64::MAX - d) / 10 < value {
+            value = u64::MAX;
             large = true;
         } else {
             value = 10 * value + d;
@@ -87,7 +76,7 @@ fn digits_at(text: &[u8], from: usize, before: u64) -> Run
     Run {
         value,
         large,
-        end: at,
+        end: from.max(text.len()),
     }
 }
 
@@ -96,13 +85,13 @@ fn digits_at(text: &[u8], from: usize, before: u64) -> Run
 fn is_sign(b: u8) -> bool
     ensures { result ≡ is_sign b }
 {
-    b == 43 || b == 45
+    b == b'+' || b == b'-'
 }
 
 fn is_exponent(b: u8) -> bool
     ensures { result ≡ is_exponent b }
 {
-    b == 101 || b == 69
+    b == b'e' || b == b'E'
 }
 
 // Past the sign at a place, if one stands there.
@@ -110,9 +99,10 @@ fn sign_end(text: &[u8], at: usize) -> usize
     ensures { result ≡ sign_end text.now at }
 {
     if is_sign(byte_at(text, at)) {
-        return at + 1;
+        at + 1
+    } else {
+        at
     }
-    at
 }
 
 // Digits, and optionally a point and digits.
@@ -121,7 +111,7 @@ fn significand_at(text: &[u8], from: usize) -> Significand
 {
     let whole = digits_at(text, from, 0);
     let point = whole.end;
-    if byte_at(text, point) != 46 {
+    if byte_at(text, point) != b'.' {
         return Significand {
             value: whole.value,
             digits: point - from,
@@ -144,25 +134,22 @@ fn significand_at(text: &[u8], from: usize) -> Significand
 fn exponent_at(text: &[u8], at: usize) -> Exponent
     ensures { result ≡ capped_exponent (exponent_at text.now at) }
 {
+    let none = Exponent {
+        negative: false,
+        size: 0,
+        end: at,
+    };
     if !is_exponent(byte_at(text, at)) {
-        return Exponent {
-            negative: false,
-            size: 0,
-            end: at,
-        };
+        return none;
     }
     let sign = at + 1;
     let start = sign_end(text, sign);
     let run = digits_at(text, start, 0);
     if run.end == start {
-        return Exponent {
-            negative: false,
-            size: 0,
-            end: at,
-        };
+        return none;
     }
     Exponent {
-        negative: byte_at(text, sign) == 45,
+        negative: byte_at(text, sign) == b'-',
         size: run.value,
         end: run.end,
     }
@@ -173,41 +160,36 @@ fn exponent_at(text: &[u8], at: usize) -> Exponent
 fn with_sign(negative: bool, x: f64) -> f64
     ensures { result ≡ signed negative x }
 {
-    if negative {
-        return -x;
-    }
-    x
+    if negative { -x } else { x }
 }
 
 // ---- the answer
 
-fn refusal(status: u64, end: usize) -> Decimal
-    ensures { result ≡ refused status end }
+fn refusal(error: DecimalError, end: usize) -> Parsed<f64>
+    ensures { result ≡ refused error end }
 {
-    Decimal {
-        status,
-        value: 0.0,
+    Parsed {
+        value: Err(error),
         end,
     }
 }
 
 // The answer for a number whose size is rounded: refused if that is infinite.
-fn answer_for(negative: bool, size: f64, end: usize) -> Decimal
+fn answer_for(negative: bool, size: f64, end: usize) -> Parsed<f64>
     requires { lt size (inf false) ≡ finite size }
     ensures { result ≡ answer_for negative size end }
 {
-    if size < 1.0 / 0.0 {
-        return Decimal {
-            status: 0,
-            value: with_sign(negative, size),
+    if size < f64::INFINITY {
+        return Parsed {
+            value: Ok(with_sign(negative, size)),
             end,
         };
     }
-    refusal(3, end)
+    refusal(DecimalError::Infinite, end)
 }
 
 // ±m × 10^up.
-fn multiplied(negative: bool, m: u64, up: u64, end: usize) -> Decimal
+fn multiplied(negative: bool, m: u64, up: u64, end: usize) -> Parsed<f64>
     requires { m < digit_limit }
     ensures { result ≡ scaled negative m up 0 end }
 {
@@ -215,7 +197,7 @@ fn multiplied(negative: bool, m: u64, up: u64, end: usize) -> Decimal
 }
 
 // ±m / 10^down.
-fn divided(negative: bool, m: u64, down: u64, end: usize) -> Decimal
+fn divided(negative: bool, m: u64, down: u64, end: usize) -> Parsed<f64>
     requires { m < digit_limit }
     ensures { result ≡ scaled negative m 0 down end }
 {
@@ -223,12 +205,12 @@ fn divided(negative: bool, m: u64, down: u64, end: usize) -> Decimal
 }
 
 // ±m × 10^(x - f). Divided by 10^400 or more, m is 0.
-fn answer_of(negative: bool, m: u64, f: u64, x: Exponent) -> Decimal
+fn answer_of(negative: bool, m: u64, f: u64, x: Exponent) -> Parsed<f64>
     requires { f < 2 ^ 63 }
     ensures { result ≡ answer_of negative m f x }
 {
     if 10_000_000_000_000_000_000 <= m {
-        return refusal(2, x.end);
+        return refusal(DecimalError::TooLarge, x.end);
     }
     if x.negative {
         if 400 <= x.size {
@@ -243,42 +225,39 @@ fn answer_of(negative: bool, m: u64, f: u64, x: Exponent) -> Decimal
 }
 
 // The decimal number that stands in text at `from`.
-pub fn decimal(text: &[u8], from: usize) -> Decimal
+pub fn decimal(text: &[u8], from: usize) -> Parsed<f64>
     ensures value { result ≡ decimal_at text.now from }
     ensures within { Within from (length text.now) result.end }
 {
     let start = sign_end(text, from);
     let s = significand_at(text, start);
     if s.digits == 0 {
-        return refusal(1, from);
+        return refusal(DecimalError::NoNumber, from);
     }
     let x = exponent_at(text, s.end);
-    answer_of(byte_at(text, from) == 45, s.value, s.after, x)
+    answer_of(byte_at(text, from) == b'-', s.value, s.after, x)
 }
 
 // The whole number that stands in text at `from`.
-pub fn whole(text: &[u8], from: usize) -> Whole
+pub fn whole(text: &[u8], from: usize) -> Parsed<u64>
     ensures value { result ≡ whole_at text.now from }
     ensures within { Within from (length text.now) result.end }
 {
     let run = digits_at(text, from, 0);
     if run.end == from {
-        return Whole {
-            status: 1,
-            value: 0,
+        return Parsed {
+            value: Err(DecimalError::NoNumber),
             end: from,
         };
     }
     if run.large {
-        return Whole {
-            status: 2,
-            value: 0,
+        return Parsed {
+            value: Err(DecimalError::TooLarge),
             end: run.end,
         };
     }
-    Whole {
-        status: 0,
-        value: run.value,
+    Parsed {
+        value: Ok(run.value),
         end: run.end,
     }
 }

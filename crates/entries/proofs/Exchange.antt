@@ -6,7 +6,7 @@ use native.Mathlib.Nat.{not-suc-le-zero, le_of_suc-le-suc}
 use native.Mathlib.Numerals.{add-one}
 use native.Mathlib.Omega.{arith}
 use lib.ListN.{length, take, drop, get_or, set, length-set, drop_of_length-le, get_or-map}
-use lib.Seq.{take_all, drop-set-lt, get_or-set_same, get_or-set_other, set-set, set_comm, set-get_or}
+use lib.Seq.{take_all, drop-set-lt, get_or-set_same, get_or-set_other, set-set, set_comm}
 use Rattle.model.specs.Lists.{groups}
 use Rattle.model.specs.Entries.{entry_len, entry_of, listed, past_count}
 use Rattle.model.specs.declared.Size.{Size}
@@ -80,9 +80,6 @@ module _ (len count a b : ℕ) (w₀ : List ℕ) where
     pub long : length w ≡ length w₀
     pub rest : drop (count * len) w ≡ drop (count * len) w₀
     pub words : groups len count w ≡ set (set (groups len count w₀) a (mixed k second first)) b (mixed k first second)
-
-  pub none-exchanged : Exchanging 0 w₀
-  none-exchanged = record { long = refl; rest = refl; words = sym (ap (λ m. set m b second) (set-get_or (groups len count w₀) a []) ∙ set-get_or (groups len count w₀) b []) }
 
   module _ (p : count * len ≤ length w₀) (h : a < b) (g : b < count) where
     apart : a ≡ b → ⊥

@@ -5,8 +5,8 @@ use Prim.Native.Nat.{ℕ, ◌+◌, ◌*◌, ◌-◌, ◌≤◌, ◌<◌}
 use native.Mathlib.Nat.{add-sub_cancel_left, mul-le-mul_right}
 use native.Mathlib.Omega.{arith}
 use lib.ListN.{length}
-use borrow.Rule.Slice.PartMut.{mid_of, same_len_mid}
-use Rattle.model.specs.Entries.{Keyed, entry_len, entry_of, stretch, with_stretch}
+use borrow.Rule.Slice.PartMut.{mid_of}
+use Rattle.model.specs.Entries.{Keyed, entry_len, entry_of, stretch}
 use Rattle.model.specs.declared.Size.{Size}
 use Rattle.model.proofs.Groups.{stride-le}
 use Rattle.model.proofs.Entries.{length-stretch}
@@ -43,9 +43,6 @@ first-within {s} {count} {i} {len} {w} p e h = omega (arith, slot-end s len (len
 -- the stretch of entry i as it is lent, `&mut store[at..end]`
 abbrev pub part : ℕ → ℕ → List ℕ → List ℕ
 part len i w = mid_of (i * len) (i * len + len - i * len) w
-
-pub turn-length : (len i : ℕ) (w x : List ℕ) → length x ≡ length (part len i w) → length (with_stretch len i w x) ≡ length w
-turn-length len i w x e = same_len_mid (i * len) (i * len + len - i * len) w x e
 
 module _ (s : Size) (len : ℕ) (e : len ≡ entry_len s) where
   pub part-is : (i : ℕ) (w : List ℕ) → part len i w ≡ stretch s w i

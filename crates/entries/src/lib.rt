@@ -36,13 +36,13 @@ pub fn rows_of(store: &[u64], size: Size, i: usize) -> &[u64]
     ensures { (result.now ≡ (body_in size (stretch size store.now i)).rows) × (length result.now ≡ rows_len size) }
 {
     let rows = 5 + 3 * size.k;
-    let e = entry(store, size, i);
-    &e[rows..]
+    &entry(store, size, i)[rows..]
 }
 
 // ---- lost and live
 
 // Qubit q is live, by an entry's loss word.
+#[tactic(auto, unfolding(model::specs::Lists::every))]
 pub fn is_live(loss: u64, q: usize) -> bool
     requires { q < 64 }
     ensures { result ≡ all_live loss (q ∷ []) }
@@ -51,14 +51,12 @@ pub fn is_live(loss: u64, q: usize) -> bool
 }
 
 // Both qubits are.
+#[tactic(auto, unfolding(model::specs::Lists::every))]
 pub fn both_live(loss: u64, a: usize, b: usize) -> bool
     requires { (a < 64) × (b < 64) }
     ensures { result ≡ all_live loss (a ∷ b ∷ []) }
 {
-    if is_live(loss, a) {
-        return is_live(loss, b);
-    }
-    false
+    is_live(loss, a) && is_live(loss, b)
 }
 
 // ---- moved and exchanged
@@ -72,13 +70,8 @@ pub fn move_entry(store: &mut [u64], size: Size, count: usize, from: usize, to: 
         return;
     }
     let len = entry_len(size);
-    let a = from * len;
-    let b = to * len;
-    let mut k = 0;
-    while k < len {
-        store[b + k] = store[a + k];
-        k += 1;
-    }
+    let at = from * len;
+    store.copy_within(at..at + len, to * len);
 }
 
 // Two entries change places.
@@ -89,12 +82,8 @@ pub fn swap_entries(store: &mut [u64], size: Size, count: usize, a: usize, b: us
     let len = entry_len(size);
     let at = a * len;
     let bt = b * len;
-    let mut j = 0;
-    while j < len {
-        let x = store[at + j];
-        store[at + j] = store[bt + j];
-        store[bt + j] = x;
-        j += 1;
+    for j in 0..len {
+        store.swap(at + j, bt + j);
     }
 }
 
@@ -106,7 +95,5 @@ pub fn clear_from(store: &mut [u64], size: Size, from: usize, count: usize)
     ensures { Packed size from store.new × (listed size from store.new ≡ take from (listed size count store.old)) }
 {
     let len = entry_len(size);
-    let start = from * len;
-    let end = count * len;
-    words::clear(&mut store[start..end]);
+    words::clear(&mut store[from * len..count * len]);
 }

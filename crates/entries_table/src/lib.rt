@@ -17,76 +17,41 @@ const WIDTH: usize = 14;
 fn place_of(cutoff: usize, step: usize, count: usize) -> usize
     ensures { result < 1023 }
 {
-    if cutoff < 8 {
-        if step < 64 {
-            if count <= 64 {
-                return 2 * (cutoff * count + step);
-            }
-        }
+    if cutoff < 8 && step < 64 && count <= 64 {
+        return 2 * (cutoff * count + step);
     }
     0
 }
 
-// The number that the step was given, 0 if it was accepted, and the entries after it.
-#[derive(Clone, Copy)]
-struct Shown {
-    number: u64,
-    entries: u64,
-}
-
-fn shown_at(out: &[u64; 1024], cutoff: usize, step: usize, count: usize) -> Shown {
+// The entries after a step, or the number that it was refused with.
+fn shown_at(out: &[u64; 1024], cutoff: usize, step: usize, count: usize) -> Result<u64, u64> {
     let at = place_of(cutoff, step, count);
-    Shown {
-        number: out[at],
-        entries: out[at + 1],
+    match out[at] {
+        0 => Ok(out[at + 1]),
+        number => Err(number),
     }
-}
-
-// Whether a trial has nothing to show after this: the step was refused, or no entry is left.
-fn is_end(s: Shown) -> bool {
-    s.number != 0 || s.entries == 0
-}
-
-// The first step of a trial of which that is so; `count` if there is none.
-fn first_end(out: &[u64; 1024], cutoff: usize, count: usize) -> usize {
-    let mut step: usize = 0;
-    while step < count {
-        if is_end(shown_at(out, cutoff, step, count)) {
-            return step;
-        }
-        step += 1;
-    }
-    count
 }
 
 // ---- the head
 
 // A cutoff as it was given or, where that is wider than a column, as floats are printed.
 fn put_cutoff(row: &mut [u8; 256], at: usize, list: &[u8], c: Cutoffs, i: usize) -> usize {
-    if i < 8 {
-        let from = c.from[i];
-        let to = c.to[i];
-        if from <= to {
-            if to <= list.len() {
-                if to - from <= WIDTH {
-                    return printing::put(row, at, &list[from..to]);
-                }
-            }
-        }
-        return printing::put_float_alone(row, at, c.values[i]);
+    if 8 <= i {
+        return at;
     }
-    at
+    match list.get(c.from[i]..c.to[i]) {
+        Some(given) if given.len() <= WIDTH => printing::put(row, at, given),
+        _ => printing::put_float_alone(row, at, c.values[i]),
+    }
 }
 
 fn write_head(list: &[u8], c: Cutoffs) -> bool {
     let mut row = printing::row();
     let mut at = printing::put_left(&mut row, 0, b"# step   line instruction      qubit", 36);
-    let mut i: usize = 0;
-    while i < c.count {
+    for i in 0..c.count {
         let mut cell = printing::row();
         let end = put_cutoff(&mut cell, 0, list, c, i);
         at = printing::put_part(&mut row, at, &cell, end, WIDTH);
-        i += 1;
     }
     printing::write(STDOUT_FILENO, &mut row, at)
 }
@@ -94,45 +59,38 @@ fn write_head(list: &[u8], c: Cutoffs) -> bool {
 // ---- the rows
 
 fn put_step(row: &mut [u8; 256], number: u64, step: Step) -> usize {
-    let name = step.name;
     let line = printing::put_number(row, 0, number, 6);
     let instruction = printing::put_number(row, line, step.line, 6);
-    let qubit = printing::put_left(row, instruction, &name, 16);
+    let qubit = printing::put_left(row, instruction, &step.name, 16);
     printing::put_number(row, qubit, step.qubit as u64, 5)
 }
 
-fn put_shown(row: &mut [u8; 256], at: usize, s: Shown) -> usize {
-    if s.number == 0 {
-        return printing::put_number(row, at, s.entries, WIDTH);
+fn put_shown(row: &mut [u8; 256], at: usize, shown: Result<u64, u64>) -> usize {
+    match shown {
+        Ok(entries) => printing::put_number(row, at, entries, WIDTH),
+        Err(number) => {
+            let mut cell = printing::row();
+            let digits = printing::put_byte(&mut cell, 0, b'!');
+            let end = printing::put_digits(&mut cell, digits, number);
+            printing::put_part(row, at, &cell, end, WIDTH)
+        }
     }
-    let mut cell = printing::row();
-    let digits = printing::put_byte(&mut cell, 0, b'!');
-    let end = printing::put_digits(&mut cell, digits, s.number);
-    printing::put_part(row, at, &cell, end, WIDTH)
 }
 
 fn write_row(step: Step, i: usize, count: usize, cutoffs: usize, out: &[u64; 1024]) -> bool {
     let mut row = printing::row();
     let mut at = put_step(&mut row, passes::next(i as u64), step);
-    let mut cutoff: usize = 0;
-    while cutoff < cutoffs {
+    for cutoff in 0..cutoffs {
         at = put_shown(&mut row, at, shown_at(out, cutoff, i, count));
-        cutoff += 1;
     }
     printing::write(STDOUT_FILENO, &mut row, at)
 }
 
-fn write_rows(steps: [Step; 64], count: usize, cutoffs: usize, out: &[u64; 1024]) -> bool {
-    let mut i: usize = 0;
-    while i < 64 {
-        if count <= i {
-            return true;
-        }
-        let step = steps[i];
-        if !write_row(step, i, count, cutoffs, out) {
+fn write_rows(steps: &[Step], cutoffs: usize, out: &[u64; 1024]) -> bool {
+    for (i, step) in steps.iter().enumerate() {
+        if !write_row(*step, i, steps.len(), cutoffs, out) {
             return false;
         }
-        i += 1;
     }
     true
 }
@@ -183,35 +141,23 @@ fn write_empty(list: &[u8], c: Cutoffs, i: usize, at: usize, step: Step) -> bool
     printing::write_up_to(STDOUT_FILENO, &row, end)
 }
 
-fn write_end(
-    list: &[u8],
-    c: Cutoffs,
-    i: usize,
-    steps: [Step; 64],
-    count: usize,
-    out: &[u64; 1024],
-) -> bool {
-    let at = first_end(out, i, count);
-    if at < count {
-        if at < 64 {
-            let step = steps[at];
-            let s = shown_at(out, i, at, count);
-            if s.number == 0 {
-                return write_empty(list, c, i, at, step);
-            }
-            return write_refused(list, c, i, at, step, s.number);
+// .. if it shows a step that was refused, or one after which no entry is left.
+fn write_end(list: &[u8], c: Cutoffs, i: usize, steps: &[Step], out: &[u64; 1024]) -> bool {
+    for (at, step) in steps.iter().enumerate() {
+        match shown_at(out, i, at, steps.len()) {
+            Ok(0) => return write_empty(list, c, i, at, *step),
+            Err(number) => return write_refused(list, c, i, at, *step, number),
+            Ok(_) => {}
         }
     }
     true
 }
 
-fn write_ends(list: &[u8], c: Cutoffs, steps: [Step; 64], count: usize, out: &[u64; 1024]) -> bool {
-    let mut i: usize = 0;
-    while i < c.count {
-        if !write_end(list, c, i, steps, count, out) {
+fn write_ends(list: &[u8], c: Cutoffs, steps: &[Step], out: &[u64; 1024]) -> bool {
+    for i in 0..c.count {
+        if !write_end(list, c, i, steps, out) {
             return false;
         }
-        i += 1;
     }
     true
 }
@@ -219,16 +165,10 @@ fn write_ends(list: &[u8], c: Cutoffs, steps: [Step; 64], count: usize, out: &[u
 // ---- all of it
 
 // The list of cutoffs is taken from the arguments again, as it was given.
-pub fn write(
-    rt: &impl Env,
-    steps: [Step; 64],
-    count: usize,
-    c: Cutoffs,
-    out: &[u64; 1024],
-) -> bool {
+pub fn write(rt: &impl Env, steps: &[Step], c: Cutoffs, out: &[u64; 1024]) -> bool {
     let mut list = io::buffer();
     let n = options::value_of(rt, options::place_of(rt, b"--try-cutoffs"), &mut list);
     write_head(&list[..n], c)
-        && write_rows(steps, count, c.count, out)
-        && write_ends(&list[..n], c, steps, count, out)
+        && write_rows(steps, c.count, out)
+        && write_ends(&list[..n], c, steps, out)
 }

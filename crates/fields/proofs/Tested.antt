@@ -12,7 +12,10 @@ use lib.ListN.{length, take, drop, get_or, length-drop, drop_of_length-le}
 use lib.Seq.{drop-drop, drop-cons}
 use Rattle.model.specs.Lists.{groups}
 use Rattle.model.specs.Sheet.{line_end, columns, line_len, same_words, field_value, also, line_fields, all_some, lines_fields}
-use Rattle.fields.specs.Read.{is_some}
+use Rattle.std.specs.Prelude as code
+use Rattle.std.specs.Option as option
+use Rattle.std.specs.Prelude.{None, Some}
+use Rattle.fields.specs.Read.{as_option, is_some}
 use Rattle.fields.proofs.Lines.{lines-count}
 
 -- ---- something was read, or nothing
@@ -37,13 +40,10 @@ also-read f (some a) none = refl
 also-read f (some a) (some b) = refl
 
 -- what `read_field` answers, as a test
-pub field-tested : (s : Bool) (w : ℕ) (bs : List ℕ) → cond s (some w) none ≡ field_value bs → is_some (field_value bs) ≡ s
+pub field-tested : (o : code.Option ℕ) (bs : List ℕ) → as_option o ≡ field_value bs → is_some (field_value bs) ≡ option.is_some o
 unfolding is_some
-field-tested s w bs e = ap is_some (sym e) ∙ is s
-  where
-    is : (b : Bool) → is_some (cond b (some w) none) ≡ b
-    is true = refl
-    is false = refl
+field-tested (Some v) bs e = ap is_some (sym e)
+field-tested None bs e = ap is_some (sym e)
 
 -- ---- the fields of a line
 

@@ -12,6 +12,10 @@ use Rattle.model.specs.Sheet.{blank, digit, columns, leading, field, same_words,
 use Rattle.model.proofs.Lists.{and_both, and-true, and-false}
 use Rattle.model.proofs.Sheet.{justified-read}
 use Rattle.fields.specs.Read.{column}
+use Rattle.std.specs.Prelude as code
+use Rattle.std.specs.Option as option
+use Rattle.std.specs.Prelude.{None, Some}
+use Rattle.fields.specs.Read.{as_option}
 
 -- ---- words compared
 
@@ -79,7 +83,7 @@ read-field bs v e = go (value_from 0 bs) (same_words bs (field (value_from 0 bs)
     go w true false p q r = let z : ◌≡◌ {A = ℕ} 0 1 = cc in absurd (omega arith)
     go w false t p q r = let z : ◌≡◌ {A = ℕ} 0 1 = cc in absurd (omega arith)
 
--- the two answers of `read_field`: the digits stand for a number below 2^64, and then the columns are its field or not; or for a larger one
+-- the answers of `read_field`: the digits stand for a number below 2^64, and then the columns are its field or not; or for a larger one
 pub sound-read : (bs : List ℕ) (s : Bool) (v : ℕ) → v < 2 ^ 64 → v ≡ value_from 0 bs → s ≡ same_words bs (field v) → cond s (some v) none ≡ field_value bs
 unfolding field_value
 sound-read bs s v h e p = rw (← e, lt-ltb v (2 ^ 64) h, and-true (same_words bs (field v)), p)
@@ -89,6 +93,6 @@ unfolding field_value
 large-read bs h = rw (le-ltb (value_from 0 bs) (2 ^ 64) h, and-false (same_words bs (field (value_from 0 bs))))
 
 -- the value that was read
-pub value_read : (s : Bool) (w v : ℕ) → cond s (some w) none ≡ some v → w ≡ v
-value_read true w v e = cc
-value_read false w v e = let z : ◌≡◌ {A = ℕ} 0 1 = cc in absurd (omega arith)
+pub value_read : (o : code.Option ℕ) (v : ℕ) → as_option o ≡ some v → option.unwrap_or o 0 ≡ v
+value_read (Some w) v e = cc
+value_read None v e = let z : ◌≡◌ {A = ℕ} 0 1 = cc in absurd (omega arith)

@@ -2,7 +2,7 @@
 // is bad, and can go on from there.
 #![tactic(auto)]
 
-use circuit::{Act, Fault, Item, Line, Verdict};
+use circuit::{Act, Fault, Item, Line};
 use input::{Found, Source};
 use passes::{Outcome, Pass};
 
@@ -13,66 +13,61 @@ pub struct Checked {
     pub qubits: usize,
 }
 
-fn with(pass: Pass, qubits: usize) -> Checked {
-    Checked { pass, qubits }
-}
-
 // Nothing is looked at yet.
 pub fn start() -> Checked {
-    with(passes::start(), 0)
+    Checked {
+        pass: passes::start(),
+        qubits: 0,
+    }
 }
 
 // The pass goes on after a bad line.
 pub fn resumed(c: Checked) -> Checked {
-    with(passes::resumed(c.pass), c.qubits)
+    with_pass(c, passes::resumed(c.pass))
+}
+
+fn with_pass(c: Checked, pass: Pass) -> Checked {
+    Checked { pass, ..c }
+}
+
+fn ended(c: Checked, outcome: Outcome, from: usize, to: usize) -> Checked {
+    with_pass(c, passes::ended(c.pass, outcome, from, to))
 }
 
 // ---- calls
 
 // The rates of a call.
-fn check_rates(l: Line, act: Act, pass: Pass, qubits: usize) -> Checked {
-    let rates = l.rates;
-    if calls::rates_sound(act, rates) {
-        return with(pass, qubits);
+fn check_rates(l: Line, act: Act, c: Checked) -> Checked {
+    if calls::rates_sound(act, l.rates) {
+        return c;
     }
-    with(
-        passes::ended(pass, Outcome::Rates, l.from, l.targets),
-        qubits,
-    )
+    ended(c, Outcome::Rates, l.from, l.targets)
 }
 
 // The targets of a call, of which all are below `limit`, and its rates.
-fn check_call(line: &[u8], l: Line, act: Act, pass: Pass, qubits: usize, limit: usize) -> Checked {
+fn check_call(line: &[u8], l: Line, act: Act, c: Checked, limit: usize) -> Checked {
     let r = circuit::reach(line, l.targets, circuit::takes_pairs(act), limit);
-    let verdict = r.verdict;
-    if let Verdict::Bad(fault) = verdict {
-        return with(
-            passes::ended(pass, Outcome::Bad(fault), r.from, r.to),
-            qubits,
-        );
+    if let Err(fault) = r.verdict {
+        return ended(c, Outcome::Bad(fault), r.from, r.to);
     }
-    if qubits < r.qubits {
-        return check_rates(l, act, pass, r.qubits);
-    }
-    check_rates(l, act, pass, qubits)
+    let reached = Checked {
+        qubits: c.qubits.max(r.qubits),
+        ..c
+    };
+    check_rates(l, act, reached)
 }
 
-// ---- blocks: `begun` has the line of each REPEAT that is open, of the first 64
+// ---- blocks: `begun` has the line of each REPEAT that is open, of the first 64; fixed memory: the pass counts them
 
 // One more block is open.
 fn deeper(pass: Pass) -> Pass {
-    let depth = pass.depth;
-    if depth < usize::MAX {
-        return passes::at_depth(pass, depth + 1);
-    }
-    pass
+    passes::at_depth(pass, pass.depth.saturating_add(1))
 }
 
 // A block begins.
 fn open(begun: &mut [u64; 64], pass: Pass, from: usize, to: usize) -> Pass {
-    let depth = pass.depth;
-    if depth < 64 {
-        begun[depth] = pass.line;
+    if pass.depth < begun.len() {
+        begun[pass.depth] = pass.line;
         return deeper(pass);
     }
     passes::ended(deeper(pass), Outcome::TooDeep, from, to)
@@ -80,71 +75,49 @@ fn open(begun: &mut [u64; 64], pass: Pass, from: usize, to: usize) -> Pass {
 
 // .. ends.
 fn close(pass: Pass, from: usize, to: usize) -> Pass {
-    let depth = pass.depth;
-    if 0 < depth {
-        return passes::at_depth(pass, depth - 1);
+    match pass.depth.checked_sub(1) {
+        Some(depth) => passes::at_depth(pass, depth),
+        None => passes::ended(pass, Outcome::NoRepeat, from, to),
     }
-    passes::ended(pass, Outcome::NoRepeat, from, to)
 }
 
 // A bad line that begins a block or ends one still does, so that the other end is not told as bad for it.
 fn matched(line: &[u8], begun: &mut [u64; 64], pass: Pass, fault: Fault) -> Pass {
     match fault {
-        Fault::Repeats => open(begun, pass, 0, 0),
-        Fault::After => {
-            if circuit::is_closing(line) {
-                return close(pass, 0, 0);
-            }
-            open(begun, pass, 0, 0)
-        }
+        Fault::After if circuit::is_closing(line) => close(pass, 0, 0),
+        Fault::Repeats | Fault::After => open(begun, pass, 0, 0),
         _ => pass,
     }
 }
 
 // ---- lines
 
-fn check_item(
-    line: &[u8],
-    begun: &mut [u64; 64],
-    pass: Pass,
-    qubits: usize,
-    limit: usize,
-) -> Checked {
+fn check_item(line: &[u8], begun: &mut [u64; 64], c: Checked, limit: usize) -> Checked {
     let l = circuit::parse(line);
-    let item = l.item;
-    match item {
-        Item::Nothing => with(pass, qubits),
+    match l.item {
+        Item::Nothing => c,
         Item::Bad(fault) => {
-            let after = matched(line, begun, pass, fault);
-            with(
-                passes::ended(after, Outcome::Bad(fault), l.from, l.to),
-                qubits,
-            )
+            let after = with_pass(c, matched(line, begun, c.pass, fault));
+            ended(after, Outcome::Bad(fault), l.from, l.to)
         }
-        Item::Call(act) => check_call(line, l, act, pass, qubits, limit),
-        Item::Repeat(_) => with(open(begun, pass, l.from, l.to), qubits),
-        Item::Close => with(close(pass, l.from, l.to), qubits),
+        Item::Call(act) => check_call(line, l, act, c, limit),
+        Item::Repeat(_) => with_pass(c, open(begun, c.pass, l.from, l.to)),
+        Item::Close => with_pass(c, close(c.pass, l.from, l.to)),
     }
 }
 
-// The line of the innermost block that is open.
+// The line of the innermost block that is open, of the first 64; 0 if none is.
 fn innermost(begun: &[u64; 64], depth: usize) -> u64 {
-    if depth < 1 {
-        return 0;
-    }
-    if 64 < depth {
-        return begun[63];
-    }
-    begun[depth - 1]
+    begun.iter().take(depth).last().copied().unwrap_or(0)
 }
 
 // At the circuit's end no block is open.
-fn check_end(begun: &[u64; 64], pass: Pass) -> Pass {
-    let depth = pass.depth;
+fn check_end(begun: &[u64; 64], c: Checked) -> Checked {
+    let depth = c.pass.depth;
     if 0 < depth {
-        return passes::ended(pass, Outcome::Unclosed(innermost(begun, depth)), 0, 0);
+        return ended(c, Outcome::Unclosed(innermost(begun, depth)), 0, 0);
     }
-    passes::ended(pass, Outcome::Done, 0, 0)
+    ended(c, Outcome::Done, 0, 0)
 }
 
 fn check_line(
@@ -154,18 +127,14 @@ fn check_line(
     c: Checked,
     limit: usize,
 ) -> Checked {
-    let before = c.pass;
-    let window = input::next_line(s, bytes, before.window);
-    let found = window.found;
-    let from = window.from;
-    let to = window.to;
-    let pass = passes::moved(before, window);
-    match found {
-        Found::Line => check_item(&bytes[from..to], begun, pass, c.qubits, limit),
-        Found::End => with(check_end(begun, pass), c.qubits),
-        Found::TooLong => with(passes::ended(pass, Outcome::TooLong, 0, 0), c.qubits),
-        Found::Failed => with(passes::ended(pass, Outcome::Failed, 0, 0), c.qubits),
-        Found::Cut => with(passes::ended(pass, Outcome::Cut, 0, 0), c.qubits),
+    let window = input::next_line(s, bytes, c.pass.window);
+    let next = with_pass(c, passes::moved(c.pass, window));
+    match window.found {
+        Found::Line => check_item(&bytes[window.from..window.to], begun, next, limit),
+        Found::End => check_end(begun, next),
+        Found::TooLong => ended(next, Outcome::TooLong, 0, 0),
+        Found::Failed => ended(next, Outcome::Failed, 0, 0),
+        Found::Cut => ended(next, Outcome::Cut, 0, 0),
     }
 }
 
@@ -179,13 +148,11 @@ pub fn check(
     limit: usize,
 ) -> Checked {
     let mut c = so_far;
-    let mut turns = u64::MAX;
-    while turns > 0 {
+    for _ in 0..u64::MAX {
         c = check_line(s, bytes, begun, c, limit);
         if !passes::is_going(c.pass) {
             return c;
         }
-        turns -= 1;
     }
     c
 }

@@ -2,7 +2,7 @@
 use mathlib.Core.Path.{◌≡◌, ap}
 use mathlib.Core.Bool.{true, false}
 use mathlib.Core.List.{List, ◌++◌, append-nil}
-use Prim.Native.Nat.{ℕ, suc, ◌+◌, ◌*◌, ◌-◌}
+use Prim.Native.Nat.{ℕ, suc, ◌+◌, ◌*◌, ◌-◌, ◌≤◌}
 use native.Mathlib.Nat.{suc-mul, sub-zero}
 use native.Mathlib.Omega.{arith}
 use lib.Ieee.{Float}
@@ -18,12 +18,23 @@ use Rattle.model.specs.declared.Header.{Header}
 use Rattle.model.specs.declared.Answer.{Answer}
 use Rattle.model.specs.Sound.{Sized}
 use Rattle.model.proofs.Shape.{sized}
+use Rattle.entries.specs.Within.{Within}
 
 -- the first slot and the others
 pub slots : (s : Size) (len : ℕ) → Sized s len → len ≡ entry_len s + (s.capacity - 1) * entry_len s
 slots s len h =
     let one : s.capacity ≡ suc (s.capacity - 1) = omega (arith, h.capacity.low) in
     omega (arith, ap (λ (c : ℕ). c * entry_len s) one, suc-mul (s.capacity - 1) (entry_len s), h.words)
+
+module _ (s : Size) (len : ℕ) (e : size_sound s len ≡ true) where
+  pub within : Within s
+  within = let h = sized s len e in record { qubits = h.qubits.high; coefficients = h.coefficients.high }
+
+  pub few : 1 ≤ s.k
+  few = (sized s len e).coefficients.low
+
+  pub slots-fit : entry_len s ≤ len
+  slots-fit = omega (arith, slots s len (sized s len e))
 
 module _ (s : Size) (threshold cutoff : Float) (w : List ℕ) where
   abbrev header : ℕ → Header

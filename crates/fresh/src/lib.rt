@@ -20,10 +20,7 @@ pub fn fresh_x(n: usize, r: usize) -> u64
     requires { n ≤ 64 }
     ensures { result ≡ (fresh_row n r).x }
 {
-    if r < n {
-        return 1 << r;
-    }
-    0
+    if r < n { 1 << r } else { 0 }
 }
 
 // z of fresh row r: rows n to 2n - 1 are Z on qubit r - n.
@@ -31,26 +28,22 @@ pub fn fresh_z(n: usize, r: usize) -> u64
     requires { (n ≤ 64) × (r < 2 * n) }
     ensures { result ≡ (fresh_row n r).z }
 {
-    if r < n {
-        return 0;
-    }
-    1 << (r - n)
+    if r < n { 0 } else { 1 << (r - n) }
 }
 
 // The fresh rows, whatever the words were.
+#[tactic(auto, unfolding(model::specs::Lists::words_below))]
 pub fn fresh_rows(rows: &mut [u64], n: usize)
     requires { (n ≤ 64) × (length rows.old ≡ 3 * (2 * n)) }
     ensures { rows.new ≡ rows_below (fresh_row n) (2 * n) }
 {
-    let mut r = 0;
-    while r < 2 * n {
+    for r in 0..2 * n {
         let at = 3 * r;
         let x = fresh_x(n, r);
         let z = fresh_z(n, r);
         rows[at] = x;
         rows[at + 1] = z;
         rows[at + 2] = 0;
-        r += 1;
     }
 }
 
@@ -59,36 +52,35 @@ pub fn fresh_entry(e: &mut [u64], size: Size)
     requires { Within size × (1 ≤ size.k) × (length e.old ≡ entry_len size) }
     ensures { e.new ≡ words_of (keyed usual_salts size.n (fresh_entry size)) }
 {
-    let n = size.n;
-    let rows = 5 + 3 * size.k;
-    words::clear(&mut e[..rows]);
-    fresh_rows(&mut e[rows..], n);
-    let word_key = keys::word_key(&e[rows..], n);
-    let phase_loss_key = keys::phase_loss_key(keys::usual_salts(), n, &e[rows..], 0);
-    e[0] = ONE;
-    e[2] = word_key;
-    e[3] = phase_loss_key;
-    e[4] = 1;
-    e[6] = ONE;
+    let Size { n, k, .. } = size;
+    let (head, rows) = e.split_at_mut(5 + 3 * k);
+    fresh_rows(rows, n);
+    let word_key = keys::word_key(rows, n);
+    let phase_loss_key = keys::phase_loss_key(keys::usual_salts(), n, rows, 0);
+    head.fill(0);
+    head[0] = ONE;
+    head[2] = word_key;
+    head[3] = phase_loss_key;
+    head[4] = 1;
+    head[6] = ONE;
 }
 
 // THE CALL: a sum of the fresh entry, if 1 is above the cutoff, in a store holding any words. 1, 2.
 pub fn fresh(size: Size, threshold: f64, cutoff: f64, store: &mut [u64]) -> Answer
     ensures { gave result store.new ≡ start (Calls.fresh size threshold cutoff) store.old }
 {
-    let words = store.len();
-    if !checks::size_sound(size, words) {
+    if !checks::size_sound(size, store.len()) {
         return answers::plain_answer(answers::zero_header(), 1);
     }
     if !checks::bounds_sound(threshold, cutoff) {
         return answers::plain_answer(answers::zero_header(), 2);
     }
     if cutoff < 1.0 {
-        let len = entries::entry_len(size);
-        fresh_entry(&mut store[..len], size);
-        words::clear(&mut store[len..]);
+        let (first, rest) = store.split_at_mut(entries::entry_len(size));
+        fresh_entry(first, size);
+        rest.fill(0);
         return answers::plain_answer(answers::header(size, 1, threshold, cutoff, false), 0);
     }
-    words::clear(&mut store[..]);
+    store.fill(0);
     answers::plain_answer(answers::header(size, 0, threshold, cutoff, false), 0)
 }

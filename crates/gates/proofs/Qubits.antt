@@ -1,10 +1,10 @@
 -- Number 3 in the cases of a gate, and what it leaves: qubits below n, so below 64. Assumes nothing.
 use mathlib.Core.Path.{◌≡◌, refl, ◌∙◌}
 use mathlib.Core.Bool.{Bool, true, false, ◌||◌}
-use Prim.Native.Nat.{ℕ, ◌<◌, ◌≤◌}
+use Prim.Native.Nat.{ℕ, ◌≤◌}
 use native.Mathlib.Nat.{lt_of_lt_of_le}
 use lib.Dec.{leb, eqb}
-use borrow.Author.Tests.{leb-false, le-leb, lt-leb}
+use borrow.Author.Tests.{leb-false}
 use Rattle.model.specs.Lists.{some_of}
 use Rattle.model.specs.Gates.{gate_qubits}
 use Rattle.model.specs.Numbers.{some_not_below, both_the_same}
@@ -23,18 +23,6 @@ alone true = refl
 alone false = refl
 
 module _ (n : ℕ) where
-  pub refuses-first : (a b : ℕ) → n ≤ a → true ≡ refuses n (Cnot a b)
-  unfolding some_not_below some_of gate_qubits
-  refuses-first a b h = rw (le-leb n a h)
-
-  pub refuses-second : (a b : ℕ) → a < n → n ≤ b → true ≡ refuses n (Cnot a b)
-  unfolding some_not_below some_of gate_qubits
-  refuses-second a b h k = rw (lt-leb n a h, le-leb n b k)
-
-  pub refuses-same : (a b : ℕ) → a < n → b < n → eqb a b ≡ refuses n (Cnot a b)
-  unfolding some_not_below some_of gate_qubits both_the_same
-  refuses-same a b h k = rw (lt-leb n a h, lt-leb n b k)
-
   pub accepted-below : (g : Gate) → refuses n g ≡ false → GateBelow n g
   unfolding some_not_below some_of gate_qubits both_the_same
   accepted-below (H q) e = leb-false n q (alone (leb n q) ∙ e)

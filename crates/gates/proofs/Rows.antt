@@ -4,7 +4,7 @@ use mathlib.Core.List.{List, [], ◌∷◌, ◌++◌, append_assoc, append-nil}
 use Prim.Native.Nat.{ℕ, zero, suc, ◌+◌, ◌*◌, ◌-◌, ◌<◌, ◌≤◌}
 use native.Mathlib.Nat.{le_antisymm, suc-mul}
 use native.Mathlib.Omega.{arith}
-use lib.ListN.{length, take, drop, get_or, length-append, length-drop, drop_of_length-le}
+use lib.ListN.{length, take, drop, get_or, length-drop, drop_of_length-le}
 use lib.Seq.{take_at, take-add, length-take-le, drop_at, drop-drop, get_or-take, get_or-drop}
 use Rattle.model.specs.Lists.{words_below}
 use Rattle.model.specs.Entries.{Row, row_at, row_words, rows_below, with_stretch}
@@ -61,9 +61,6 @@ module _ (f : Row → Row) (old : List ℕ) where
 
   made-length : (i : ℕ) → length (made i) ≡ i * 3
   made-length i = words_below-length 3 (λ r. row_words (f (row_at old r))) (λ r. refl) i ∙ (omega arith)
-
-  pub so-far-length : (i : ℕ) → i * 3 ≤ length old → length (so_far i) ≡ length old
-  so-far-length i h = omega (arith, length-append (made i) (drop (i * 3) old), made-length i, length-drop (i * 3) old)
 
   pub none_yet : old ≡ so_far 0
   unfolding words_below

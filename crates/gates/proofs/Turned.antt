@@ -1,6 +1,6 @@
 -- What `gate` tests of its own, and what it leaves of a sum that the tests in front let through. Assumes nothing.
-use mathlib.Core.Path.{◌≡◌, refl, sym, ap, ap₂, ◌∙◌}
-use mathlib.Core.Bool.{true}
+use mathlib.Core.Path.{◌≡◌, sym, ap, ap₂, ◌∙◌}
+use mathlib.Core.Bool.{Bool, true}
 use mathlib.Core.List.{List, [], ◌∷◌, map}
 use Prim.Native.Nat.{ℕ}
 use native.Mathlib.Omega.{arith}
@@ -21,19 +21,20 @@ use Rattle.gates.proofs.Qubits.{refuses, accepted-below, below_more}
 
 module _ (x : Lent) (g : Gate) where
   -- 3: a qubit is not below n, or both are the same
-  abbrev pub own-test : ℕ
-  own-test = first_of (gives 3 (refuses x.header.size.n g) ∷ [])
+  module _ {own : ℕ} {r : Bool} (e : own ≡ first_of (gives 3 r ∷ [])) (q : r ≡ refuses x.header.size.n g) where
+    own_is : own ≡ first_of (gives 3 (refuses x.header.size.n g) ∷ [])
+    own_is = e ∙ ap (λ (b : Bool). first_of (gives 3 b ∷ [])) q
 
-  pub own_is : own-test ≡ first_of (argument_tests (gate g) x.header.size x.header.count)
-  unfolding argument_tests
-  own_is = refl
+    pub own-so : own ≡ first_of (argument_tests (gate g) x.header.size x.header.count)
+    unfolding argument_tests
+    own-so = own_is
 
-  -- the qubits of a gate that is let through are below 64
-  pub turnable : (own : ℕ) → own ≡ own-test → front own x ≡ 0 → GateBelow 64 g
-  turnable own e z =
-      let n = x.header.size.n in
-      below_more n 64 g (front-sound x own z).packed.sized.qubits.high
-      (accepted-below n g (not-applies 3 (refuses n g) (λ k. omega arith) (sym e ∙ (front-passed own x z).own-0)))
+    -- the qubits of a gate that is let through are below 64
+    pub turnable : front own x ≡ 0 → GateBelow 64 g
+    turnable z =
+        let n = x.header.size.n in
+        below_more n 64 g (front-sound x own z).packed.sized.qubits.high
+        (accepted-below n g (not-applies 3 (refuses n g) (λ k. omega arith) (sym own_is ∙ (front-passed own x z).own-0)))
 
   -- 0: the store holds the turned entries, and the sum is dirty
   pub all-turned : (w : List ℕ) → Packed x.header.size x.header.count w

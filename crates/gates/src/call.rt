@@ -18,8 +18,7 @@ pub fn gate_known(h: Header, store: &mut [u64], gate: Gate, known: bool) -> Answ
     requires { Known known (held h store.old) }
     ensures { Stepped (Calls.gate gate) known (held h store.old) result store.new }
 {
-    let size = h.size;
-    let count = h.count;
+    let Header { size, count, .. } = h;
     let own = checks::test(3, crate::qubits_refused(size.n, gate));
     let number = checks::front(h, store, own, known);
     if number != 0 {

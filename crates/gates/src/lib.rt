@@ -28,6 +28,7 @@ pub fn power(q: usize) -> u64
 }
 
 // m if b is not 0, else 0.
+#[tactic(auto, unfolding(model::specs::Keys::if_set))]
 fn select(b: u64, m: u64) -> u64
     ensures { result ≡ if_set b m }
 {
@@ -43,7 +44,7 @@ pub fn turn_h(row: &mut [u64], q: usize)
     let x = row[0];
     let z = row[1];
     let apart = (x ^ z) & at;
-    row[2] = row[2] ^ select(x & z & at, 2);
+    row[2] ^= select(x & z & at, 2);
     row[0] = x ^ apart;
     row[1] = z ^ apart;
 }
@@ -55,7 +56,7 @@ pub fn turn_s(row: &mut [u64], q: usize)
 {
     let x = row[0] & power(q);
     let z = row[1];
-    row[2] = row[2] ^ select(z & x, 2);
+    row[2] ^= select(z & x, 2);
     row[1] = z ^ x;
 }
 
@@ -70,7 +71,7 @@ pub fn turn_cnot(row: &mut [u64], a: usize, b: usize)
     let z = row[1];
     let zb = select(z & to, at);
     let xb = select(x & to, at);
-    row[2] = row[2] ^ select(x & zb & (xb ^ z ^ at), 2);
+    row[2] ^= select(x & zb & (xb ^ z ^ at), 2);
     row[0] = x ^ select(x & at, to);
     row[1] = z ^ zb;
 }
@@ -103,23 +104,20 @@ pub fn turn_rows(rows: &mut [u64], n: usize, gate: Gate)
     requires { (length rows.old ≡ 3 * (2 * n)) × (n ≤ 64) × GateBelow 64 gate }
     ensures { rows.new ≡ map_rows n (turned_row gate) rows.old }
 {
-    let mut i = 0;
-    while i < n {
+    for i in 0..n {
         let at = i * 6;
-        let end = at + 6;
-        turn_pair(&mut rows[at..end], gate);
-        i += 1;
+        turn_pair(&mut rows[at..at + 6], gate);
     }
 }
 
 // None of the gate's qubits is lost.
+#[tactic(auto, unfolding(model::specs::Gates::gate_qubits))]
 pub fn is_live(gate: Gate, loss: u64) -> bool
     requires { GateBelow 64 gate }
     ensures { result ≡ all_live loss (gate_qubits gate) }
 {
     match gate {
-        Gate::H(q) => entries::is_live(loss, q),
-        Gate::S(q) => entries::is_live(loss, q),
+        Gate::H(q) | Gate::S(q) => entries::is_live(loss, q),
         Gate::Cnot(a, b) => entries::both_live(loss, a, b),
     }
 }
@@ -129,10 +127,9 @@ pub fn turn_entry(e: &mut [u64], size: Size, gate: Gate)
     requires { Within size × (length e.old ≡ entry_len size) × GateBelow 64 gate }
     ensures { e.new ≡ words_of (turned keyed_weighed size.n gate (entry_of size e.old)) }
 {
-    let n = size.n;
     let rows = 5 + 3 * size.k;
     if is_live(gate, e[1]) {
-        turn_rows(&mut e[rows..], n, gate);
+        turn_rows(&mut e[rows..], size.n, gate);
     }
 }
 
@@ -142,30 +139,19 @@ pub fn turn_entries(store: &mut [u64], size: Size, count: usize, gate: Gate)
     ensures { Packed size count store.new × (listed size count store.new ≡ map (turned keyed_weighed size.n gate) (listed size count store.old)) }
 {
     let len = entries::entry_len(size);
-    let mut place = 0;
-    while place < count {
+    for place in 0..count {
         let at = place * len;
-        let end = at + len;
-        turn_entry(&mut store[at..end], size, gate);
-        place += 1;
+        turn_entry(&mut store[at..at + len], size, gate);
     }
 }
 
 // Number 3 applies: a qubit is not below n, or CNOT's two are the same.
+#[tactic(auto, unfolding(model::specs::Numbers::some_not_below, model::specs::Numbers::both_the_same, model::specs::Lists::some_of, model::specs::Gates::gate_qubits))]
 pub fn qubits_refused(n: usize, gate: Gate) -> bool
     ensures { result ≡ (some_not_below n (gate_qubits gate) || both_the_same gate) }
 {
     match gate {
-        Gate::H(q) => n <= q,
-        Gate::S(q) => n <= q,
-        Gate::Cnot(a, b) => {
-            if n <= a {
-                return true;
-            }
-            if n <= b {
-                return true;
-            }
-            a == b
-        }
+        Gate::H(q) | Gate::S(q) => n <= q,
+        Gate::Cnot(a, b) => n <= a || n <= b || a == b,
     }
 }

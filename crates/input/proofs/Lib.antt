@@ -1,1 +1,1 @@
-pub mod Marked
+mod Marked

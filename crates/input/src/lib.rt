@@ -3,11 +3,12 @@
 
 mod copying;
 
-ghost use Rattle.std.specs.Prelude.{◌≡◌, ◌≤◌, length};
+ghost use Rattle.std.specs.Prelude.{◌≡◌, ◌≤◌, length, IfOk, IfSome};
 ghost use Rattle.input.specs.Marks.{mark_length};
 
 pub use copying::{Given, Source, take};
 use std::fs::File;
+use std::io::Result;
 use std::os::unix::fs::FileExt;
 
 // ---- lines
@@ -52,38 +53,24 @@ pub fn start() -> Window {
 // The next line begins at another offset.
 pub fn jumped(w: Window, next: u64) -> Window {
     Window {
-        base: w.base,
-        fill: w.fill,
         from: 0,
         to: 0,
         next,
         found: Found::End,
+        ..w
     }
-}
-
-// a + b, or the largest number.
-fn plus(a: u64, b: u64) -> u64 {
-    if a <= u64::MAX - b {
-        return a + b;
-    }
-    u64::MAX
 }
 
 // The byte order mark that a text begins with: how long it is, 0 if there is none.
+#[tactic(auto, unfolding(crate::specs::Marks::mark_length))]
 fn mark_length(text: &[u8]) -> usize
     ensures value { result ≡ mark_length text.now }
     ensures within { result ≤ length text.now }
 {
-    if 2 < text.len() {
-        if text[0] == 0xEF {
-            if text[1] == 0xBB {
-                if text[2] == 0xBF {
-                    return 3;
-                }
-            }
-        }
+    match text {
+        [0xEF, 0xBB, 0xBF, ..] => 3,
+        _ => 0,
     }
-    0
 }
 
 // The stretch of the window up to `to`, and one more byte for the line end.
@@ -95,73 +82,47 @@ fn stretch(base: u64, fill: usize, from: usize, to: usize, found: Found) -> Wind
         fill,
         from,
         to,
-        next: plus(plus(base, to as u64), 1),
+        next: base.saturating_add(to as u64).saturating_add(1),
         found,
     }
 }
 
-// The line that begins at an offset, if the window holds all of it; `End` if not.
-fn held(bytes: &[u8], w: Window) -> Window
-    ensures { (result.from ≤ result.to) × (result.to ≤ length bytes.now) }
+// The line that begins at an offset, if the window holds all of it.
+fn held(bytes: &[u8], w: Window) -> Option<Window>
+    ensures { IfSome result (λ h. (h.from ≤ h.to) × (h.to ≤ length bytes.now)) }
 {
     let fill = w.fill;
-    if fill <= bytes.len() {
-        if w.base <= w.next {
-            let ahead = (w.next - w.base) as usize;
-            if ahead < fill {
-                let to = scan::find(bytes, ahead, fill, b'\n');
-                if to < fill {
-                    return stretch(w.base, fill, ahead, to, Found::Line);
-                }
+    if fill <= bytes.len() && w.base <= w.next {
+        let ahead = (w.next - w.base) as usize;
+        if ahead < fill {
+            let to = scan::find(bytes, ahead, fill, b'\n');
+            if to < fill {
+                return Some(stretch(w.base, fill, ahead, to, Found::Line));
             }
         }
     }
-    stretch(0, 0, 0, 0, Found::End)
+    None
 }
 
 // ---- the window filled
 
-// An offset as the system counts it.
-fn signed(offset: u64) -> u64 {
-    if offset <= 0x7fff_ffff_ffff_ffff {
-        return offset;
-    }
-    0x7fff_ffff_ffff_ffff
-}
+// The system counts offsets up to this one.
+const MAX_OFFSET: u64 = i64::MAX as u64;
 
-// How many bytes came; `ok`: no reading failed.
-#[derive(Clone, Copy)]
-struct Filled {
-    fill: usize,
-    ok: bool,
-}
-
-// Bytes once read, from an offset on.
-fn fill_some(file: &File, bytes: &mut [u8], offset: u64) -> Filled
-    ensures { result.fill ≤ length bytes.old }
-{
-    match file.read_at(bytes, signed(offset)) {
-        Ok(fill) => Filled { fill, ok: true },
-        Err(_) => Filled { fill: 0, ok: false },
-    }
-}
-
-// The bytes from an offset on, as many as there are and the window holds.
-fn fill_all(file: &File, bytes: &mut [u8], offset: u64) -> Filled
-    ensures { result.fill ≤ length bytes.old }
+// The bytes from an offset on, as many as there are and the window holds; how many.
+fn fill_all(file: &File, bytes: &mut [u8], offset: u64) -> Result<usize>
+    ensures { IfOk result (λ n. n ≤ length bytes.old) }
 {
     let mut fill = 0;
     while fill < bytes.len() {
-        let f = fill_some(file, &mut bytes[fill..], plus(offset, fill as u64));
-        if !f.ok {
-            return Filled { fill, ok: false };
+        let at = offset.saturating_add(fill as u64).min(MAX_OFFSET);
+        let n = file.read_at(&mut bytes[fill..], at)?;
+        if n == 0 {
+            return Ok(fill);
         }
-        if f.fill == 0 {
-            return Filled { fill, ok: true };
-        }
-        fill = fill + f.fill;
+        fill += n;
     }
-    Filled { fill, ok: true }
+    Ok(fill)
 }
 
 // Past the mark at the start of the circuit, in a window of `fill` bytes from the offset `base` on.
@@ -170,9 +131,10 @@ fn mark_end(bytes: &[u8], base: u64, fill: usize) -> usize
     ensures { result ≤ fill }
 {
     if base == 0 {
-        return mark_length(&bytes[0..fill]);
+        mark_length(&bytes[..fill])
+    } else {
+        0
     }
-    0
 }
 
 // The line at the start of a window that was filled anew. A byte order mark at the start of the circuit is passed over.
@@ -190,24 +152,18 @@ fn first(bytes: &[u8], base: u64, fill: usize) -> Window
 
 // Whether the window has all bytes that it should have: those up to the end of the circuit, or as many as it holds.
 fn is_whole(s: &Source, next: u64, fill: usize, room: usize) -> bool {
-    if fill == room {
-        return true;
-    }
-    plus(next, fill as u64) == s.size
+    fill == room || next.saturating_add(fill as u64) == s.size
 }
 
 // The line at an offset, after the window is filled from there on.
 fn refilled(s: &Source, bytes: &mut [u8], next: u64) -> Window
     ensures { (result.from ≤ result.to) × (result.to ≤ length bytes.new) }
 {
-    let f = fill_all(&s.file, bytes, next);
-    if !f.ok {
-        return stretch(next, 0, 0, 0, Found::Failed);
+    match fill_all(&s.file, bytes, next) {
+        Err(_) => stretch(next, 0, 0, 0, Found::Failed),
+        Ok(fill) if is_whole(s, next, fill, bytes.len()) => first(bytes, next, fill),
+        Ok(_) => stretch(next, 0, 0, 0, Found::Cut),
     }
-    if is_whole(s, next, f.fill, bytes.len()) {
-        return first(bytes, next, f.fill);
-    }
-    stretch(next, 0, 0, 0, Found::Cut)
 }
 
 // THE NEXT LINE.
@@ -217,10 +173,8 @@ pub fn next_line(s: &Source, bytes: &mut [u8], w: Window) -> Window
     if s.size <= w.next {
         return stretch(s.size, 0, 0, 0, Found::End);
     }
-    let h = held(bytes, w);
-    let found = h.found;
-    if let Found::Line = found {
-        return h;
+    match held(bytes, w) {
+        Some(line) => line,
+        None => refilled(s, bytes, w.next),
     }
-    refilled(s, bytes, w.next)
 }

@@ -1,10 +1,10 @@
 // Masks and keys (document 01, point 1). Rows are words (x, z, phase), 2n of them.
 #![tactic(auto)]
 
-ghost use Rattle.std.specs.Prelude.{◌≡◌, ◌+◌, ◌*◌, ◌≤◌, length, bit_xor};
+ghost use Rattle.std.specs.Prelude.{◌≡◌, ◌+◌, ◌*◌, ◌≤◌, All, map, length, bit_xor};
 ghost use Rattle.model.specs.Entries.{x_at, z_at, phase_at};
 ghost use Rattle.model.specs.Keys.{usual_salts, mix, row_mask, bit, if_set, mask_xor, phase_mask, phase_part, phase_loss_key, absorb, word_key};
-ghost use Rattle.keys.specs.Tables.{PhaseMasks, KeysOfFour};
+ghost use Rattle.keys.specs.Tables.{PhaseMasks, key_of_rows};
 ghost use Rattle.model.specs.declared.Salts.{Salts};
 
 use model::Salts;
@@ -25,49 +25,31 @@ pub fn usual_salts() -> Salts
 }
 
 // SplitMix64's finalizer.
+#[tactic(auto, unfolding(model::specs::Keys::shift_xor, model::specs::Keys::mix))]
 pub fn finalize(z: u64) -> u64
     ensures { result ≡ mix z }
 {
-    let a = words::wrapping_mul(z ^ (z >> 30), 0xBF58_476D_1CE4_E5B9);
-    let b = words::wrapping_mul(a ^ (a >> 27), 0x94D0_49BB_1331_11EB);
+    let a = (z ^ (z >> 30)).wrapping_mul(0xBF58_476D_1CE4_E5B9);
+    let b = (a ^ (a >> 27)).wrapping_mul(0x94D0_49BB_1331_11EB);
     b ^ (b >> 31)
 }
 
-// The mask of a row, or of a qubit, under a salt.
+// The mask of a row, or of a qubit, under a salt: sign(row), imag(row) and loss(q) under the salts of these names.
+#[tactic(auto, unfolding(model::specs::Keys::row_mask))]
 pub fn row_mask(index: usize, salt: u64) -> u64
     ensures { result ≡ row_mask index salt }
 {
-    finalize(std::num::wrapping_add_u64(words::wrapping_mul(index as u64, GOLDEN), salt))
-}
-
-// sign(row).
-pub fn sign_mask(salts: Salts, row: usize) -> u64
-    ensures { result ≡ row_mask row salts.sign }
-{
-    row_mask(row, salts.sign)
-}
-
-// imag(row).
-pub fn imag_mask(salts: Salts, row: usize) -> u64
-    ensures { result ≡ row_mask row salts.imag }
-{
-    row_mask(row, salts.imag)
-}
-
-// loss(q).
-pub fn loss_mask(salts: Salts, q: usize) -> u64
-    ensures { result ≡ row_mask q salts.loss }
-{
-    row_mask(q, salts.loss)
+    finalize((index as u64).wrapping_mul(GOLDEN).wrapping_add(salt))
 }
 
 // ---- the word key
 
 // h with one more word.
+#[tactic(auto, unfolding(model::specs::Keys::absorb))]
 pub fn absorb_word(h: u64, w: u64) -> u64
     ensures { result ≡ absorb h w }
 {
-    finalize(std::num::wrapping_add_u64(h, GOLDEN) ^ w)
+    finalize(h.wrapping_add(GOLDEN) ^ w)
 }
 
 // h with row i: x then z.
@@ -81,58 +63,42 @@ pub fn absorb_row(h: u64, rows: &[u64], i: usize) -> u64
 }
 
 // The word key of 2n rows.
+#[tactic(auto, unfolding(model::specs::Keys::word_key))]
 pub fn word_key(rows: &[u64], n: usize) -> u64
     requires { (n ≤ 64) × (3 * (2 * n) ≤ length rows.now) }
     ensures { result ≡ word_key (2 * n) (x_at rows.now) (z_at rows.now) }
 {
-    let m = 2 * n;
-    let mut h: u64 = 0;
-    let mut i: usize = 0;
-    while i < m {
+    let mut h = 0;
+    for i in 0..2 * n {
         h = absorb_row(h, rows, i);
-        i += 1;
     }
     h
 }
 
-// The word keys of four entries.
-#[derive(Clone, Copy)]
-pub struct FourKeys {
-    pub a: u64,
-    pub b: u64,
-    pub c: u64,
-    pub d: u64,
-}
-
 // Four word keys at once. A step of a key waits for the step before it; four keys do not wait for each other.
-pub fn four_word_keys(a: &[u64], b: &[u64], c: &[u64], d: &[u64], n: usize) -> FourKeys
-    requires { (n ≤ 64) × (3 * (2 * n) ≤ length a.now) × (3 * (2 * n) ≤ length b.now) × (3 * (2 * n) ≤ length c.now) × (3 * (2 * n) ≤ length d.now) }
-    ensures { KeysOfFour (2 * n) a.now b.now c.now d.now result }
+#[tactic(auto, unfolding(model::specs::Keys::word_key))]
+pub fn four_word_keys(rows: [&[u64]; 4], n: usize) -> [u64; 4]
+    requires { (n ≤ 64) × All (λ r. 3 * (2 * n) ≤ length r.now) rows }
+    ensures { result ≡ map (λ r. key_of_rows (2 * n) r.now) rows.entry }
 {
-    let m = 2 * n;
-    let mut ha: u64 = 0;
-    let mut hb: u64 = 0;
-    let mut hc: u64 = 0;
-    let mut hd: u64 = 0;
-    let mut i: usize = 0;
-    while i < m {
+    let [a, b, c, d] = rows;
+    let mut ha = 0;
+    let mut hb = 0;
+    let mut hc = 0;
+    let mut hd = 0;
+    for i in 0..2 * n {
         ha = absorb_row(ha, a, i);
         hb = absorb_row(hb, b, i);
         hc = absorb_row(hc, c, i);
         hd = absorb_row(hd, d, i);
-        i += 1;
     }
-    FourKeys {
-        a: ha,
-        b: hb,
-        c: hc,
-        d: hd,
-    }
+    [ha, hb, hc, hd]
 }
 
 // ---- the phase-loss key
 
 // The mask of an index under a salt if the bit is 1, else 0.
+#[tactic(auto, unfolding(model::specs::Keys::if_set))]
 pub fn masked(b: u64, index: usize, salt: u64) -> u64
     ensures { result ≡ if_set b (row_mask index salt) }
 {
@@ -140,6 +106,7 @@ pub fn masked(b: u64, index: usize, salt: u64) -> u64
 }
 
 // imag(row) where phase bit 0 is set, sign(row) where bit 1 is set.
+#[tactic(auto, unfolding(model::specs::Keys::phase_mask))]
 pub fn phase_mask(salts: Salts, row: usize, phase: u64) -> u64
     ensures { result ≡ phase_mask salts row phase }
 {
@@ -147,15 +114,14 @@ pub fn phase_mask(salts: Salts, row: usize, phase: u64) -> u64
 }
 
 // The XOR of the phase masks of m rows.
+#[tactic(auto, unfolding(model::specs::Keys::phase_part, model::specs::Keys::xor_below))]
 pub fn phase_part(salts: Salts, m: usize, rows: &[u64]) -> u64
     requires { 3 * m ≤ length rows.now }
     ensures { result ≡ phase_part salts m (phase_at rows.now) }
 {
-    let mut h: u64 = 0;
-    let mut i: usize = 0;
-    while i < m {
-        h = h ^ phase_mask(salts, i, rows[3 * i + 2]);
-        i += 1;
+    let mut h = 0;
+    for i in 0..m {
+        h ^= phase_mask(salts, i, rows[3 * i + 2]);
     }
     h
 }
@@ -166,34 +132,32 @@ pub fn phase_masks(salts: Salts, m: usize) -> [u64; 512]
     ensures { PhaseMasks salts m result }
 {
     let mut table = [0u64; 512];
-    let mut i: usize = 0;
-    while i < m {
-        let imag = imag_mask(salts, i);
-        let sign = sign_mask(salts, i);
+    for i in 0..m {
+        let imag = row_mask(i, salts.imag);
+        let sign = row_mask(i, salts.sign);
         table[4 * i + 1] = imag;
         table[4 * i + 2] = sign;
         table[4 * i + 3] = imag ^ sign;
-        i += 1;
     }
     table
 }
 
 // The XOR of the phase masks of m rows, from the table.
+#[tactic(auto, unfolding(model::specs::Keys::phase_part, model::specs::Keys::xor_below))]
 pub fn phase_part_from(table: &[u64; 512], m: usize, rows: &[u64]) -> u64
     requires { (length table.now ≡ 512) × (m ≤ 128) × (3 * m ≤ length rows.now) }
     ensures { (s : Salts) → PhaseMasks s m table.now → result ≡ phase_part s m (phase_at rows.now) }
 {
-    let mut h: u64 = 0;
-    let mut i: usize = 0;
-    while i < m {
+    let mut h = 0;
+    for i in 0..m {
         let phase = (rows[3 * i + 2] % 4) as usize;
-        h = h ^ table[4 * i + phase];
-        i += 1;
+        h ^= table[4 * i + phase];
     }
     h
 }
 
 // The XOR of the loss masks of the lost qubits of n.
+#[tactic(auto, unfolding(model::specs::Keys::mask_xor, model::specs::Keys::xor_below))]
 pub fn loss_key(salts: Salts, n: usize, loss: u64) -> u64
     requires { n ≤ 64 }
     ensures { result ≡ mask_xor salts.loss n (λ q. bit q loss) }
@@ -201,16 +165,15 @@ pub fn loss_key(salts: Salts, n: usize, loss: u64) -> u64
     if loss == 0 {
         return 0;
     }
-    let mut h: u64 = 0;
-    let mut q: usize = 0;
-    while q < n {
-        h = h ^ masked((loss >> q) % 2, q, salts.loss);
-        q += 1;
+    let mut h = 0;
+    for q in 0..n {
+        h ^= masked((loss >> q) % 2, q, salts.loss);
     }
     h
 }
 
 // The phase-loss key of an entry on n qubits: of its 2n rows and its loss word.
+#[tactic(auto, unfolding(model::specs::Keys::phase_loss_key))]
 pub fn phase_loss_key(salts: Salts, n: usize, rows: &[u64], loss: u64) -> u64
     requires { (n ≤ 64) × (3 * (2 * n) ≤ length rows.now) }
     ensures { result ≡ phase_loss_key salts n (phase_at rows.now) (λ q. bit q loss) }
@@ -219,6 +182,7 @@ pub fn phase_loss_key(salts: Salts, n: usize, rows: &[u64], loss: u64) -> u64
 }
 
 // The same, from the table.
+#[tactic(auto, unfolding(model::specs::Keys::phase_loss_key))]
 pub fn phase_loss_key_from(
     salts: Salts,
     table: &[u64; 512],

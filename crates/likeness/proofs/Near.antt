@@ -2,10 +2,8 @@
 use mathlib.Core.Path.{◌≡◌, refl, sym, ap, ap₂, ◌∙◌}
 use mathlib.Core.Bool.{Bool, true, false, true≢false, cond, not, ◌&&◌}
 use mathlib.Core.List.{List}
-use mathlib.Core.Logic.{⊎_elim}
-use Prim.Native.Nat.{ℕ, ◌+◌, ◌-◌, ◌*◌, ◌<◌, ◌≤◌}
-use native.Mathlib.Nat.{mul-pos, eq-or-lt_of_le, le_of_suc-le-suc, not-suc-le-zero}
-use native.Mathlib.Numerals.{add-one}
+use Prim.Native.Nat.{ℕ, ◌-◌, ◌*◌, ◌<◌, ◌≤◌}
+use native.Mathlib.Nat.{mul-pos}
 use native.Mathlib.Omega.{arith}
 use lib.Ieee.{Float, nan, inf, fin, binary64, up, down, of_bits, round, neg, sum, add, sub, mul, lt}
 use lib.Ieee.Fits.{down_pos}
@@ -61,12 +59,6 @@ compared_same limit a b j {x} {y} {count} ea eb ec r h =
 -- ---- the first m are the same in both
 
 module _ (x y : List ℕ) where
-  pub same_none : SameBelow x y 0
-  same_none = record { same = λ j l. absurd (not-suc-le-zero l) }
-
-  pub same_more : (m : ℕ) → SameBelow x y m → SameFinite x y m → SameBelow x y (m + 1)
-  same_more m h s = record { same = λ j l. ⊎_elim (λ (e : j ≡ m). rw e s) (λ (w : j < m). h.same j w) (eq-or-lt_of_le (le_of_suc-le-suc (rw (add-one m) at l))) }
-
   -- and the other's indices rise
   pub same-near : (limit : Float) (count m : ℕ) → m ≤ count → SameBelow x y m → lt (float 0) limit ≡ true → rising y count ≡ true → NearBelow limit x y count m
   same-near limit count m l h above rises a b ea eb ec =

@@ -16,12 +16,6 @@ use Rattle.likeness.specs.Walk.{Passed}
 -- ---- the walk
 
 module _ (coefs : List ℕ) (i count : ℕ) where
-  pub passed_none : Passed coefs i count 0
-  passed_none = record { missed = λ l a b e. absurd (omega arith) }
-
-  pub passed-same : (read read' : ℕ) → read ≡ read' → Passed coefs i count read → Passed coefs i count read'
-  passed-same read read' e p = rw e at p
-
   -- `next` is one more than were read
   module _ (read next : ℕ) (one : next ≡ read + 1) (l : next ≤ count) (p : Passed coefs i count read) where
     pub passed-more : (index_at coefs (count - next) ≡ i → ⊥) → Passed coefs i count next
@@ -34,9 +28,6 @@ module _ (coefs : List ℕ) (i count : ℕ) where
 
     pub passed-hit : index_at coefs (count - next) ≡ i → Hit coefs i count (count - next)
     passed-hit h = record { counted = omega (arith, one); index = h; first = λ k a b e. p.missed k (omega (arith, one)) b e }
-
-  pub passed-all : (read : ℕ) → Passed coefs i count read → count ≤ read → NoHit coefs i count
-  passed-all read p all l b e = p.missed l (omega arith) b e
 
 -- a hit after so many
 pub hit-after : {coefs : List ℕ} {i count : ℕ} {re im : Float} {read read' : ℕ}

@@ -21,33 +21,18 @@ pub struct Lookup {
     pub read: usize,
 }
 
-// Where a walk stands: how many coefficients it has read, and whether the last of these is a hit.
-#[derive(Clone, Copy)]
-pub struct Walked {
-    pub read: usize,
-    pub hit: bool,
-}
-
-// A walk that has read `begun` coefficients goes on, by at most `more` of them. It leaves at the first hit.
-fn walk_on(coefs: &[u64], count: usize, index: u64, begun: usize, more: usize) -> Walked
+// A walk that has read `begun` coefficients goes on, by at most `more` of them. It leaves at the first hit: with how many are read then.
+fn walk_on(coefs: &[u64], count: usize, index: u64, begun: usize, more: usize) -> Option<usize>
     requires { (3 * count ≤ length coefs.now) × (begun + more ≤ count) × Passed coefs.now index count begun }
     ensures { WalkedTo coefs.now index count (begun + more) result }
 {
-    let mut i = 0;
-    while i < more {
-        i += 1;
-        let at = 3 * (count - (begun + i));
+    for read in begun..begun + more {
+        let at = 3 * (count - (read + 1));
         if coefs[at] == index {
-            return Walked {
-                read: begun + i,
-                hit: true,
-            };
+            return Some(read + 1);
         }
     }
-    Walked {
-        read: begun + more,
-        hit: false,
-    }
+    None
 }
 
 // With what a walk returns: the last coefficient that it read is the hit.
@@ -70,21 +55,20 @@ pub fn value_at(coefs: &[u64], count: usize, index: u64) -> Lookup
     ensures { LookedUp coefs.now index count result.re result.im result.read }
 {
     let mut read = 0;
+    // A `while`: what is left after the fours begins where they end.
     while 4 <= count - read {
-        let walked = walk_on(coefs, count, index, read, 4);
-        if walked.hit {
-            return found(coefs, count, walked.read);
+        if let Some(hit) = walk_on(coefs, count, index, read, 4) {
+            return found(coefs, count, hit);
         }
         read += 4;
     }
-    let walked = walk_on(coefs, count, index, read, count - read);
-    if walked.hit {
-        return found(coefs, count, walked.read);
-    }
-    Lookup {
-        re: 0.0,
-        im: 0.0,
-        read: walked.read,
+    match walk_on(coefs, count, index, read, count - read) {
+        Some(hit) => found(coefs, count, hit),
+        None => Lookup {
+            re: 0.0,
+            im: 0.0,
+            read: count,
+        },
     }
 }
 
@@ -95,11 +79,8 @@ fn indices_rise(coefs: &[u64], count: usize) -> bool
     requires { 3 * count ≤ length coefs.now }
     ensures { result ≡ rising coefs.now count }
 {
-    let mut j = 0;
-    while j + 1 < count {
-        if coefs[3 * j] < coefs[3 * (j + 1)] {
-            j += 1;
-        } else {
+    for j in 1..count {
+        if coefs[3 * j] <= coefs[3 * (j - 1)] {
             return false;
         }
     }
@@ -121,19 +102,11 @@ fn same_finite(existing: &[u64], other: &[u64], j: usize) -> bool
     let at = 3 * j;
     let re = other[at + 1];
     let im = other[at + 2];
-    if existing[at] != other[at] {
-        return false;
-    }
-    if existing[at + 1] != re {
-        return false;
-    }
-    if existing[at + 2] != im {
-        return false;
-    }
-    if finite_bits(re) {
-        return finite_bits(im);
-    }
-    false
+    existing[at] == other[at]
+        && existing[at + 1] == re
+        && existing[at + 2] == im
+        && finite_bits(re)
+        && finite_bits(im)
 }
 
 // How many coefficients from the first on are the same in both.
@@ -141,15 +114,12 @@ fn leading_same(existing: &[u64], other: &[u64], count: usize) -> usize
     requires { (3 * count ≤ length existing.now) × (3 * count ≤ length other.now) }
     ensures { (result ≤ count) × SameBelow existing.now other.now result }
 {
-    let mut j = 0;
-    while j < count {
-        if same_finite(existing, other, j) {
-            j += 1;
-        } else {
+    for j in 0..count {
+        if !same_finite(existing, other, j) {
             return j;
         }
     }
-    j
+    count
 }
 
 // How many coefficients from the first on are near without a lookup: those that are the same in both, since their differences are 0; none,
@@ -159,14 +129,11 @@ pub fn near_unread(existing: &[u64], other: &[u64], count: usize, limit: f64) ->
     ensures { (result ≤ count) × NearBelow limit existing.now other.now count result }
 {
     let same = leading_same(existing, other, count);
-    if 0 < same {
-        if 0.0 < limit {
-            if indices_rise(other, count) {
-                return same;
-            }
-        }
+    if 0 < same && 0.0 < limit && indices_rise(other, count) {
+        same
+    } else {
+        0
     }
-    0
 }
 
 // ---- likeness

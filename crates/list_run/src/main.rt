@@ -8,55 +8,29 @@ use model::Size;
 use runs::{Ran, Room};
 use streams::STDIN_FILENO;
 use test_support::{
-    CALL_WORDS, LIST_WORDS, LOG_WORDS, MOST_CALLS, NUMBER_WORDS, RECORD_WORDS, SHOWN_WORDS,
+    CALL_WORDS, Given, LIST_WORDS, LOG_WORDS, MOST_CALLS, NUMBER_WORDS, RECORD_WORDS, SHOWN_WORDS,
 };
 
 // What each call has room for.
 const BYTES: usize = 32_768;
 
-fn room() -> Room {
-    Room {
-        shown: SHOWN_WORDS,
-        bytes: BYTES,
-    }
-}
+const ROOM: Room = Room {
+    shown: SHOWN_WORDS,
+    bytes: BYTES,
+};
 
-// Word j of an entry, 0 for a key.
-fn without_key(w: u64, j: usize) -> u64 {
-    if j == 2 {
-        return 0;
-    }
-    if j == 3 {
-        return 0;
-    }
-    w
-}
-
-// The place after j in an entry of `len` words.
-fn after(j: usize, len: usize) -> usize {
-    if j < len {
-        if j + 1 < len {
-            return j + 1;
-        }
-    }
-    0
-}
-
-// The keys of all entries put to 0.
-fn clear_keys(words: &mut [u64], len: usize) {
-    let mut j = 0;
-    let mut i = 0;
-    while i < words.len() {
-        let w = without_key(words[i], j);
-        words[i] = w;
-        j = after(j, len);
-        i += 1;
+// The two keys of an entry put to 0.
+fn clear_keys(entry: &mut [u64]) {
+    for key in entry.iter_mut().skip(2).take(2) {
+        *key = 0;
     }
 }
 
 fn tell_sum(ran: Ran, store: &mut [u64], len: usize) {
     let h = ran.header;
-    clear_keys(store, len);
+    for entry in store.chunks_mut(len.max(1)) {
+        clear_keys(entry);
+    }
     test_support::text(b"gives");
     test_support::number(ran.number);
     test_support::number(ran.made as u64);
@@ -72,93 +46,44 @@ fn tell_sum(ran: Ran, store: &mut [u64], len: usize) {
 fn tell_record(kind: u64, record: &[u64], text: &[u8]) {
     test_support::number(kind);
     test_support::text(b":");
-    test_support::numbers(record, 0, NUMBER_WORDS);
+    test_support::numbers(test_support::first(record, NUMBER_WORDS));
     test_support::text(b", record");
     test_support::number(test_support::digest_record(record));
     test_support::text(b", text");
-    test_support::number(test_support::digest_bytes(text));
+    test_support::number(test_support::digest(text));
     test_support::text(b"\n");
 }
 
-// Record i; if it is a view's, its keys put to 0.
-fn hide_keys(calls: &[u64], log: &mut [u64], i: usize) {
-    if MOST_CALLS <= i {
-        return;
-    }
-    if test_support::word_at(calls, CALL_WORDS * i) != 14 {
-        return;
-    }
-    let from = RECORD_WORDS * i + NUMBER_WORDS + 2;
-    let to = from + 2;
-    if to <= log.len() {
-        test_support::fill_words(&mut log[from..to], 0);
-    }
+fn kind(call: &[u64]) -> u64 {
+    test_support::word_at(call, 0)
 }
 
-fn hide_all_keys(calls: &[u64], log: &mut [u64], count: usize) {
-    let mut i: usize = 0;
-    while i < count {
-        hide_keys(calls, log, i);
-        i += 1;
-    }
-}
-
-// Call i of the list, with its record and its stretch of text.
-fn tell_call(calls: &[u64], log: &[u64], text: &[u8], i: usize) {
-    if MOST_CALLS <= i {
-        return;
-    }
-    let from = RECORD_WORDS * i;
-    let to = from + RECORD_WORDS;
-    let at = BYTES * i;
-    let end = at + BYTES;
-    if log.len() < to {
-        return;
-    }
-    if text.len() < end {
-        return;
-    }
-    tell_record(
-        test_support::word_at(calls, CALL_WORDS * i),
-        &log[from..to],
-        &text[at..end],
-    );
-}
-
-fn tell_calls(calls: &[u64], log: &[u64], text: &[u8], count: usize) {
-    let mut i: usize = 0;
-    while i < count {
-        tell_call(calls, log, text, i);
-        i += 1;
-    }
-}
-
-// The first bytes of what the last call wrote, into `sheet`; how many there are is the answer.
-fn keep_sheet(log: &[u64], text: &[u8], count: usize, sheet: &mut [u8]) -> usize {
-    if count == 0 {
-        return 0;
-    }
-    if MOST_CALLS < count {
-        return 0;
-    }
-    let last = count - 1;
-    let length = test_support::word_at(log, RECORD_WORDS * last + 6) as usize;
-    test_support::keep_bytes(sheet, text, BYTES * last, length);
-    length
-}
-
-fn size_in(start: [u64; 18]) -> Size {
-    Size {
-        n: start[1] as usize,
-        k: start[2] as usize,
-        capacity: start[3] as usize,
-    }
-}
-
+// Each call of the list, with its record and its stretch of text. The record of a view (14) has its keys put to 0.
 fn tell_run(calls: &[u64], log: &mut [u64], text: &[u8]) {
-    let count = calls.len() / CALL_WORDS;
-    hide_all_keys(calls, log, count);
-    tell_calls(calls, log, text, count);
+    let records = log.chunks_exact_mut(RECORD_WORDS);
+    let texts = text.chunks_exact(BYTES);
+    for ((call, record), text) in calls.chunks_exact(CALL_WORDS).zip(records).zip(texts) {
+        let kind = kind(call);
+        if kind == 14 {
+            clear_keys(&mut record[NUMBER_WORDS..]);
+        }
+        tell_record(kind, record, text);
+    }
+}
+
+// The text that the last call wrote goes into `sheet`; how long it is, if there is room for it, is the answer. Of no call it is empty.
+fn keep_sheet(log: &[u64], text: &[u8], count: usize, sheet: &mut [u8]) -> Option<usize> {
+    let records = log.chunks_exact(RECORD_WORDS);
+    let texts = text.chunks_exact(BYTES);
+    let Some((record, text)) = records.zip(texts).take(count).last() else {
+        return Some(0);
+    };
+    let length = test_support::word_at(record, 6) as usize;
+    if text.len() < length || sheet.len() < length {
+        return None;
+    }
+    sheet[..length].copy_from_slice(&text[..length]);
+    Some(length)
 }
 
 // Room for the text of every call.
@@ -168,57 +93,74 @@ fn text_room() -> [u8; TEXT] {
     [120u8; TEXT]
 }
 
-// From a fresh sum on. Its last sheet goes into `sheet`; how many bytes it has is the answer.
-fn from_fresh(start: [u64; 18], calls: &[u64], sheet: &mut [u8]) -> usize {
+// What a run starts from, and how many words an entry has.
+#[derive(Clone, Copy)]
+struct Start {
+    size: Size,
+    threshold: f64,
+    cutoff: f64,
+    entry_words: usize,
+}
+
+fn start_in(item: &[u64; 18]) -> Start {
+    Start {
+        size: Size {
+            n: item[1] as usize,
+            k: item[2] as usize,
+            capacity: item[3] as usize,
+        },
+        threshold: words::float_of(item[4]),
+        cutoff: words::float_of(item[5]),
+        entry_words: item[6] as usize,
+    }
+}
+
+// From a fresh sum on. Its last sheet goes into `sheet`; how many bytes it has, if there is room for them, is the answer.
+fn from_fresh(start: Start, calls: &[u64], sheet: &mut [u8]) -> Option<usize> {
     let mut store = [7u64; 2460];
     let mut log = [7u64; LOG_WORDS];
     let mut text = text_room();
-    let size = size_in(start);
-    let threshold = words::float_of(start[4]);
-    let cutoff = words::float_of(start[5]);
     let ran = runs::run_fresh(
-        size,
-        threshold,
-        cutoff,
+        start.size,
+        start.threshold,
+        start.cutoff,
         &mut store,
         calls,
         &mut log,
         &mut text,
-        room(),
+        ROOM,
     );
-    tell_sum(ran, &mut store, start[6] as usize);
+    tell_sum(ran, &mut store, start.entry_words);
     tell_run(calls, &mut log, &text);
     keep_sheet(&log, &text, calls.len() / CALL_WORDS, sheet)
 }
 
 // From a sheet on.
-fn from_sheet(start: [u64; 18], calls: &[u64], sheet: &[u8]) {
+fn from_sheet(start: Start, calls: &[u64], sheet: &[u8]) {
     let mut store = [7u64; 2460];
     let mut log = [7u64; LOG_WORDS];
     let mut text = text_room();
-    let ran = runs::run_sheet(sheet, &mut store, calls, &mut log, &mut text, room());
-    tell_sum(ran, &mut store, start[6] as usize);
+    let ran = runs::run_sheet(sheet, &mut store, calls, &mut log, &mut text, ROOM);
+    tell_sum(ran, &mut store, start.entry_words);
     tell_run(calls, &mut log, &text);
 }
 
 // Both runs, in stores of 2460 words that hold sevens.
-fn run_both(start: [u64; 18], calls: &[u64]) {
+fn run_both(start: Start, calls: &[u64]) {
     let mut sheet = [0u8; BYTES];
-    let length = from_fresh(start, calls, &mut sheet);
-    if length <= BYTES {
-        from_sheet(start, calls, &sheet[0..length]);
+    if let Some(length) = from_fresh(start, calls, &mut sheet) {
+        from_sheet(start, calls, test_support::first(&sheet, length));
     }
 }
 
 fn run_given(given: &[u8]) {
-    let mut start = [0u64; 18];
+    let mut given = Given::new(given);
     let mut calls = [0u64; LIST_WORDS];
-    let at = test_support::read_item(given, 0, &mut start);
+    let start = given.item().unwrap_or([0; 18]);
     let count = start[7] as usize;
-    test_support::read_calls(given, at, count, &mut calls);
+    given.calls(count, &mut calls);
     if count <= MOST_CALLS {
-        let end = CALL_WORDS * count;
-        run_both(start, &calls[0..end]);
+        run_both(start_in(&start), &calls[0..CALL_WORDS * count]);
     }
 }
 

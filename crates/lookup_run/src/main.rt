@@ -4,6 +4,7 @@
 #![tactic(auto)]
 
 use streams::STDIN_FILENO;
+use test_support::Given;
 
 // A case is given as an item: how many coefficients are counted, the index that is looked up, K, and K coefficients of three words.
 const ITEM_WORDS: usize = 4 + 3 * model::MAX_COEFFICIENTS;
@@ -23,33 +24,23 @@ fn look_up(place: u64, coefs: &[u64], count: usize, index: u64) {
     test_support::text(b"\n");
 }
 
-fn run_case(place: u64, item: &[u64]) {
-    let count = test_support::word_at(item, 1) as usize;
-    let index = test_support::word_at(item, 2);
-    let k = test_support::word_at(item, 3) as usize;
-    if k <= model::MAX_COEFFICIENTS {
-        let end = 4 + 3 * k;
-        if end <= item.len() {
-            look_up(place, &item[4..end], count, index);
-            return;
-        }
+fn run_case(place: u64, item: &[u64; ITEM_WORDS]) {
+    let k = item[3] as usize;
+    if k > model::MAX_COEFFICIENTS {
+        test_support::text(b"a case has no room\n");
+        return;
     }
-    test_support::text(b"a case has no room\n");
+    look_up(place, &item[4..4 + 3 * k], item[1] as usize, item[2]);
 }
 
-// The cases up to the end of what is given.
+// The cases up to the end of what is given, at most 2000.
 fn run_given(given: &[u8]) {
-    let mut item = [0u64; ITEM_WORDS];
-    let mut at = 0;
-    let mut i: u64 = 0;
-    while i < 2000 {
-        at = test_support::skip(given, at);
-        if given.len() <= at {
+    let mut given = Given::new(given);
+    for place in 1..2001 {
+        let Some(item) = given.item() else {
             return;
-        }
-        at = test_support::read_item(given, at, &mut item);
-        i += 1;
-        run_case(i, &item);
+        };
+        run_case(place, &item);
     }
 }
 

@@ -11,9 +11,9 @@ fn line(v: u64) {
 
 fn masks(index: usize) {
     let salts = keys::usual_salts();
-    line(keys::sign_mask(salts, index));
-    line(keys::imag_mask(salts, index));
-    line(keys::loss_mask(salts, index));
+    line(keys::row_mask(index, salts.sign));
+    line(keys::row_mask(index, salts.imag));
+    line(keys::row_mask(index, salts.loss));
 }
 
 // Rows on two qubits: x, z, phase.
@@ -25,14 +25,12 @@ fn keys_of(rows: &[u64; 12], loss: u64) {
 }
 
 fn main() {
-    line(keys::row_mask(1, 0));
-    line(keys::row_mask(2, 0));
-    line(keys::row_mask(3, 0));
-    line(keys::row_mask(4, 0));
-    line(keys::row_mask(5, 0));
-    masks(0);
-    masks(1);
-    masks(127);
+    for k in 1..6 {
+        line(keys::row_mask(k, 0));
+    }
+    for index in [0, 1, 127] {
+        masks(index);
+    }
     keys_of(&[1, 0, 0, 2, 0, 0, 0, 1, 0, 0, 2, 0], 0);
     keys_of(&[1, 2, 3, 2, 3, 1, 3, 1, 2, 0, 2, 0], 2);
     keys_of(&[3, 0, 2, 0, 0, 2, 1, 1, 2, 2, 2, 2], 3);

@@ -1,4 +1,5 @@
 -- A branch that is not made yet: its key, its search, and the keys noted once it is merged or appended. Assumes nothing.
+use Rattle.std.specs.Prelude.{Some}
 use mathlib.Core.Path.{◌≡◌, refl, sym, ap, ap₂, ◌∙◌}
 use mathlib.Core.Bool.{cond}
 use mathlib.Core.List.{List, [], ◌∷◌, ◌++◌}
@@ -16,7 +17,6 @@ use Rattle.model.specs.Keys.{usual_salts, stored_key}
 use Rattle.model.specs.Changes.{masks_of, changed_keyed}
 use Rattle.model.specs.Likeness.{alike}
 use Rattle.model.specs.Store.{keyed_weighed, reweighed, walk, Walked}
-use Rattle.model.specs.declared.Found.TheVariants.{At}
 use Rattle.model.specs.declared.Size.{Size}
 use Rattle.model.proofs.Xor.{xor_assoc}
 use Rattle.model.proofs.Groups.{stride-le}
@@ -42,7 +42,7 @@ walk-blind s threshold v b i (e ∷ es) =
     ap
     (λ (later : Walked).
     cond (eqb (stored_key e) (stored_key b))
-    (cond (alike s threshold e.entry.body b.entry.body) (record { found = At i; tested = i ∷ [] }) (record { found = later.found; tested = i ∷ later.tested }))
+    (cond (alike s threshold e.entry.body b.entry.body) (record { found = Some i; tested = i ∷ [] }) (record { found = later.found; tested = i ∷ later.tested }))
     later)
     (walk-blind s threshold v b (suc i) es)
 

@@ -1,4 +1,5 @@
 -- What merging one branch gives: it adds to the counts of any tally, and what a store then holds, by where the search found the branch. Assumes nothing.
+use Rattle.std.specs.Prelude.{Option, Some, None}
 use mathlib.Core.Path.{◌≡◌, refl, sym, ap, ◌∙◌}
 use mathlib.Core.Bool.{Bool, true, false}
 use mathlib.Core.List.{List, [], ◌∷◌}
@@ -14,8 +15,6 @@ use Rattle.model.specs.Floats.{float, bits, plus}
 use Rattle.model.specs.Entries.{Keyed, head_len, coefs_len, entry_len, entry_of, stretch, listed, with_stretch}
 use Rattle.model.specs.Store.{Weighed, Holding, Tally, no_loss, with_dropped, begun, keyed_weighed, weight_of, reweighed, gained, stored_or_dropped, settled, merge, above_cutoff}
 use Rattle.model.specs.declared.Size.{Size}
-use Rattle.model.specs.declared.Found.{Found}
-use Rattle.model.specs.declared.Found.TheVariants.{At, Nothing}
 use Rattle.model.specs.declared.Lost.{Lost}
 use Rattle.model.proofs.Entries.{length-stretch, length-listed, listed_at}
 use Rattle.model.specs.Sound.{Packed}
@@ -55,10 +54,10 @@ module _ {X : Type 0} (W : Weighed X) (b : X) (t : Tally X) where
   stored-adds true = simp (add-one, add-zero)
   stored-adds false = simp (add-one, add-zero)
 
-  settled-adds : (admit : ℕ → Bool) (f : Found) → settled W admit b t f ≡ added (weight_of W b) t (settled W admit b (begun t.entries) f)
+  settled-adds : (admit : ℕ → Bool) (f : Option ℕ) → settled W admit b t f ≡ added (weight_of W b) t (settled W admit b (begun t.entries) f)
   unfolding settled
-  settled-adds admit (At i) = simp (add-one, add-zero)
-  settled-adds admit Nothing = stored-adds (admit (weight_of W b))
+  settled-adds admit (Some i) = simp (add-one, add-zero)
+  settled-adds admit None = stored-adds (admit (weight_of W b))
 
 -- merging a branch adds to the counts
 pub merge-adds : {X : Type 0} (H : Holding X) (admit : ℕ → Bool) (b : X) (t : Tally X) → merge H admit b t ≡ added (weight_of H.weighed b) t (merge H admit b (begun t.entries))
@@ -82,7 +81,7 @@ weight-set s (a ∷ e) v h = rw (drop-set-lt (head_len + coefs_len s) (a ∷ e) 
 -- ---- the branch's words bw are settled in the store w
 
 module _ (s : Size) (count : ℕ) (cutoff : Float) (bw w : List ℕ) (p : Packed s count w) where
-  abbrev Leaves : Found → Fate → List ℕ → Type 0
+  abbrev Leaves : Option ℕ → Fate → List ℕ → Type 0
   Leaves f fate w' = SettledBy s count cutoff (entry_of s bw) f w w' fate
 
   abbrev admitted : Bool
@@ -108,7 +107,7 @@ module _ (s : Size) (count : ℕ) (cutoff : Float) (bw w : List ℕ) (p : Packed
 
   -- found at place i: the weight there gains the branch's
   pub merged : (i : ℕ) → i < count → (v : ℕ) → v ≡ bits (plus (float (get_or w (i * entry_len s) 0)) (float (get_or bw 0 0)))
-      → Leaves (At i) Merged (set w (i * entry_len s) v)
+      → Leaves (Some i) Merged (set w (i * entry_len s) v)
   unfolding settled count_by tally_by
   merged i l v g =
       record {
@@ -119,7 +118,7 @@ module _ (s : Size) (count : ℕ) (cutoff : Float) (bw w : List ℕ) (p : Packed
       }
 
   -- found nowhere, above the cutoff, with room: appended
-  pub stored : length bw ≡ entry_len s → admitted ≡ true → count < s.capacity → Leaves Nothing Stored (with_stretch (entry_len s) count w bw)
+  pub stored : length bw ≡ entry_len s → admitted ≡ true → count < s.capacity → Leaves None Stored (with_stretch (entry_len s) count w bw)
   unfolding settled stored_or_dropped count_by tally_by
   stored q a l =
       record {
@@ -130,23 +129,23 @@ module _ (s : Size) (count : ℕ) (cutoff : Float) (bw w : List ℕ) (p : Packed
       }
 
   -- above the cutoff, with no room: nothing is changed
-  pub no_room : admitted ≡ true → s.capacity ≤ count → Leaves Nothing NoRoom w
+  pub no_room : admitted ≡ true → s.capacity ≤ count → Leaves None NoRoom w
   unfolding settled stored_or_dropped count_by tally_by
   no_room a l = record { packed = p; tally = rw a; unchanged = λ z. refl; full = λ z. omega (arith, p.room) }
 
   -- not above the cutoff
-  pub dropped : admitted ≡ false → Leaves Nothing Dropped w
+  pub dropped : admitted ≡ false → Leaves None Dropped w
   unfolding settled stored_or_dropped count_by tally_by
   dropped a = record { packed = p; tally = rw a; unchanged = λ z. never (cc); full = λ z. never (cc) }
 
 -- ---- after a search for the branch b
 
 module _ (s : Size) (count : ℕ) (threshold cutoff : Float) (b : Keyed) (w : List ℕ) (r : Search) (f : Searched s threshold b (listed s count w) r) where
-  pub place-below : (i : ℕ) → r.found ≡ At i → i < count
+  pub place-below : (i : ℕ) → r.found ≡ Some i → i < count
   place-below i e = omega (arith, found_below s threshold b 0 (listed s count w) i (sym f.found ∙ e), length-listed s count w)
 
   -- its answer settles the branch
-  pub settles : (x : Found) → r.found ≡ x → (fate : Fate) (w' : List ℕ) → SettledBy s count cutoff b x w w' fate
+  pub settles : (x : Option ℕ) → r.found ≡ x → (fate : Fate) (w' : List ℕ) → SettledBy s count cutoff b x w w' fate
       → MergedBy s count threshold cutoff b w w' (record { fate = fate; compared = r.compared })
   unfolding merge
   settles x e fate w' k =

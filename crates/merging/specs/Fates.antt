@@ -1,9 +1,8 @@
 -- What merging one branch promises, by what becomes of it. Assumes nothing.
-use Rattle.std.specs.Prelude.{ℕ, ◌+◌, ◌≡◌, List, [], ◌∷◌, ◌++◌, Float, length}
+use Rattle.std.specs.Prelude.{ℕ, ◌+◌, ◌≡◌, List, [], ◌∷◌, ◌++◌, Float, length, Option}
 use Rattle.model.specs.Entries.{Keyed, listed}
 use Rattle.model.specs.Store.{Tally, no_loss, with_dropped, keyed_weighed, weight_of, begun, walk, settled, merge, above_cutoff}
 use Rattle.model.specs.Calls.{engine}
-use Rattle.model.specs.declared.Found.{Found}
 use Rattle.model.specs.declared.Size.{Size}
 use Rattle.model.specs.Sound.{Packed}
 use Rattle.merging.specs.declared.Fate.{Fate}
@@ -25,7 +24,7 @@ tally_by Dropped b es = record { entries = es; merged = 0; stored = 0; dropped =
 tally_by NoRoom b es = record { entries = es ++ b ∷ []; merged = 0; stored = 1; dropped = 0; lost = no_loss }
 
 -- the branch b, which a search found so, was settled among the `count` entries that w holds, which left w'
-pub record SettledBy (s : Size) (count : ℕ) (cutoff : Float) (b : Keyed) (f : Found) (w w' : List ℕ) (fate : Fate) : Type 0 where
+pub record SettledBy (s : Size) (count : ℕ) (cutoff : Float) (b : Keyed) (f : Option ℕ) (w w' : List ℕ) (fate : Fate) : Type 0 where
   pub packed : Packed s (count_by fate count) w'
   pub tally : settled keyed_weighed (above_cutoff cutoff) b (begun (listed s count w)) f ≡ tally_by fate b (listed s (count_by fate count) w')
   -- with no room nothing is changed

@@ -1,5 +1,5 @@
 -- What merging some branches leaves. Assumes nothing.
-use Rattle.std.specs.Prelude.{ℕ, ◌+◌, ◌*◌, ◌≤◌, ◌<◌, ◌≡◌, Bool, true, false, List, map, Float, length, take}
+use Rattle.std.specs.Prelude.{ℕ, ◌+◌, ◌*◌, ◌≤◌, ◌<◌, ◌≡◌, true, false, List, map, Float, length, take}
 use Rattle.model.specs.Entries.{Keyed, entry_len, words_of, entry_of, stretch, listed, with_stretch}
 use Rattle.model.specs.Keys.{usual_salts}
 use Rattle.model.specs.Qubits.{QubitsBelow}
@@ -78,20 +78,7 @@ pub record Went (s : Size) (threshold cutoff : Float) (bs : List Keyed) (p : Pro
   pub few : p'.merged + p'.stored + p'.dropped ≤ p.merged + p.stored + p.dropped + length bs
   pub tested : p'.compared ≤ p.compared + 256 * length bs
 
--- so many branches more of each fate: one that is stored is listed
-abbrev pub with_more : Progress → (merged stored dropped compared : ℕ) → (lost : Float) → (full : Bool) → Progress
-with_more p m s d k l f =
-    record {
-      count = p.count + s;
-      merged = p.merged + m;
-      stored = p.stored + s;
-      dropped = p.dropped + d;
-      compared = p.compared + k;
-      lost = l;
-      full = f;
-    }
-
--- one branch more, of weight w, which had this fate after k full comparisons
+-- one branch more, of weight w, which had this fate after k full comparisons: one that is stored is listed
 unfoldable pub after : Fate → Progress → ℕ → ℕ → Progress
 after Merged p k w =
     record { count = p.count; merged = p.merged + 1; stored = p.stored; dropped = p.dropped; compared = p.compared + k; lost = p.lost; full = p.full }

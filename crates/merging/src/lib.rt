@@ -1,7 +1,7 @@
 // Branches merged into the entries listed, one after the other: document 01, point 3.
 #![tactic(auto)]
 
-ghost use Rattle.std.specs.Prelude.{◌≡◌, [], ◌∷◌, ◌+◌, ◌*◌, ◌≤◌, ◌<◌, length};
+ghost use Rattle.std.specs.Prelude.{◌≡◌, [], ◌∷◌, ◌+◌, ◌*◌, ◌≤◌, ◌<◌, length, None};
 ghost use Rattle.model.specs.Entries.{entry_len, entry_of, stretch, listed};
 ghost use Rattle.model.specs.Keys.{usual_salts, stored_key};
 ghost use Rattle.model.specs.Changes.{changed_keyed};
@@ -10,11 +10,11 @@ ghost use Rattle.entries.specs.Within.{Within};
 ghost use Rattle.seeking.specs.Noted.{seen_at, Noted};
 ghost use Rattle.seeking.specs.Walk.{Searched};
 ghost use Rattle.merging.specs.Fates.{count_by, SettledBy, MergedBy};
-ghost use Rattle.merging.specs.Progress.{mutation_of, branch_in, Changes, appended, Went, Light, with_more, after, started, answered};
+ghost use Rattle.merging.specs.Progress.{mutation_of, branch_in, Changes, appended, Went, Light, after, started, answered};
 
 use arms::Shape;
 use changes::Change;
-use model::{Answer, Counts, Found, Header, Lost, Size};
+use model::{Answer, Counts, Header, Lost, Size};
 use seeking::{Search, Sought};
 
 // What every merge of one call shares: n, K and capacity, and the two floats of the header.
@@ -81,45 +81,36 @@ pub fn start(count: usize) -> Progress
     }
 }
 
-// With so many branches more of each fate; one that is stored is listed. `lost` is what is lost now.
-fn with_more(
-    p: Progress,
-    merged: usize,
-    stored: usize,
-    dropped: usize,
-    compared: usize,
-    lost: f64,
-    full: bool,
-) -> Progress
-    requires { Light 65536 p × (p.count ≤ 256) × (merged ≤ 1) × (stored ≤ 1) × (dropped ≤ 1) × (compared ≤ 256) }
-    ensures { result ≡ with_more p merged stored dropped compared lost full }
-{
-    Progress {
-        count: p.count + stored,
-        merged: p.merged + merged,
-        stored: p.stored + stored,
-        dropped: p.dropped + dropped,
-        compared: p.compared + compared,
-        lost,
-        full,
-    }
-}
-
-// With one branch more settled, of this weight. (A Progress whose fields are written one by one is slower: it goes through memory for every branch.)
+// With one branch more settled, of this weight; one that is stored is listed. (A Progress whose fields are written one by one is slower: it
+// goes through memory for every branch.)
 pub fn counted(p: Progress, settled: Settled, weight: u64) -> Progress
     requires { Light 65536 p × (settled.compared ≤ 256) × (p.count ≤ 256) }
     ensures { result ≡ after settled.fate p settled.compared weight }
 {
-    let fate = settled.fate;
-    let compared = settled.compared;
-    match fate {
-        Fate::Merged => with_more(p, 1, 0, 0, compared, p.lost, p.full),
-        Fate::Stored => with_more(p, 0, 1, 0, compared, p.lost, p.full),
-        Fate::Dropped => {
-            let lost = p.lost + words::float_of(weight);
-            with_more(p, 0, 0, 1, compared, lost, p.full)
-        }
-        Fate::NoRoom => with_more(p, 0, 0, 0, compared, p.lost, true),
+    let compared = p.compared + settled.compared;
+    match settled.fate {
+        Fate::Merged => Progress {
+            merged: p.merged + 1,
+            compared,
+            ..p
+        },
+        Fate::Stored => Progress {
+            count: p.count + 1,
+            stored: p.stored + 1,
+            compared,
+            ..p
+        },
+        Fate::Dropped => Progress {
+            dropped: p.dropped + 1,
+            lost: p.lost + words::float_of(weight),
+            compared,
+            ..p
+        },
+        Fate::NoRoom => Progress {
+            full: true,
+            compared,
+            ..p
+        },
     }
 }
 
@@ -139,11 +130,9 @@ pub fn append_changed(
     ensures { (store.new ≡ appended size count branch store.old) × Noted (count + 1) (seen_at size [] store.new) keys.new firsts.new }
 {
     let i = branch.parent;
-    let shape = branch.shape;
     let change = branch.change;
-    let delta = change.delta;
-    let own_key = keys[i] ^ delta;
-    let m = arms::mutation_at(shape, branch.arm);
+    let own_key = keys[i] ^ change.delta;
+    let m = arms::mutation_at(branch.shape, branch.arm);
     branch::make_branch(store, size, i, count, m, branch.weight, change);
     seeking::note(keys, firsts, count, own_key);
 }
@@ -165,18 +154,14 @@ fn seek_arm(
 {
     if count <= seeking::first_place(firsts, key) {
         return Search {
-            found: Found::Nothing,
+            found: None,
             compared: 0,
         };
     }
-    let shape = branch.shape;
-    let mutation = arms::mutation_at(shape, branch.arm);
-    let origin = branch.parent;
-    let change = branch.change;
     let sought = Sought {
-        origin,
-        mutation,
-        change,
+        origin: branch.parent,
+        mutation: arms::mutation_at(branch.shape, branch.arm),
+        change: branch.change,
         key,
     };
     seeking::seek_listed(store, keys, firsts, size, count, threshold, sought)
@@ -192,7 +177,7 @@ fn store_or_drop(
     branch: Branch,
 ) -> Fate
     requires { Packed limits.size count store.old × Noted count (seen_at limits.size [] store.old) keys.old firsts.old × (branch.parent < count) × Changes limits.size store.old branch }
-    ensures { SettledBy limits.size count limits.cutoff (branch_in limits.size store.old branch) Found.Nothing store.old store.new result × Noted (count_by result count) (seen_at limits.size [] store.new) keys.new firsts.new }
+    ensures { SettledBy limits.size count limits.cutoff (branch_in limits.size store.old branch) None store.old store.new result × Noted (count_by result count) (seen_at limits.size [] store.new) keys.new firsts.new }
 {
     let size = limits.size;
     if words::float_of(branch.weight) > limits.cutoff {
@@ -220,28 +205,24 @@ pub fn merge_one_changed(
     ensures { MergedBy limits.size count limits.threshold limits.cutoff (branch_in limits.size store.old branch) store.old store.new result × Noted (count_by result.fate count) (seen_at limits.size [] store.new) keys.new firsts.new }
 {
     let size = limits.size;
-    let threshold = limits.threshold;
-    let i = branch.parent;
-    let change = branch.change;
-    let key = keys[i] ^ change.delta;
+    let key = keys[branch.parent] ^ branch.change.delta;
     let search = seek_arm(
-        &store[..],
+        store,
         keys,
         firsts,
         size,
         count,
-        threshold,
+        limits.threshold,
         branch,
         key,
     );
-    let found = search.found;
     let compared = search.compared;
-    let Found::At(place) = found else {
+    let Some(place) = search.found else {
         let fate = store_or_drop(store, keys, firsts, limits, count, branch);
         return Settled { fate, compared };
     };
-    let at = place * entries::entry_len(size);
-    store[at] = words::bits_of(words::float_of(store[at]) + words::float_of(branch.weight));
+    let weight = &mut store[place * entries::entry_len(size)];
+    *weight = words::bits_of(words::float_of(*weight) + words::float_of(branch.weight));
     Settled {
         fate: Fate::Merged,
         compared,

@@ -28,16 +28,14 @@ fn tell_word(line: &[u8], from: usize, to: usize) {
 // ---- bad lines
 
 fn tell_arguments(count: usize) {
-    if count == 0 {
-        printing::say(b"this instruction has no arguments");
-        return;
+    match count {
+        0 => printing::say(b"this instruction has no arguments"),
+        1 => printing::say(b"one argument was expected, in round brackets after the name"),
+        _ => {
+            printing::say_number(count as u64);
+            printing::say(b" arguments were expected, in round brackets after the name");
+        }
     }
-    if count == 1 {
-        printing::say(b"one argument was expected, in round brackets after the name");
-        return;
-    }
-    printing::say_number(count as u64);
-    printing::say(b" arguments were expected, in round brackets after the name");
 }
 
 fn tell_outside(limit: usize) {
@@ -100,8 +98,7 @@ fn tell_at(line: &[u8], pass: Pass, what: &[u8]) {
 }
 
 fn tell_outcome(line: &[u8], pass: Pass) {
-    let outcome = pass.outcome;
-    match outcome {
+    match pass.outcome {
         Outcome::Bad(fault) => tell_bad(line, fault, pass.from, pass.to),
         Outcome::Rates => tell_at(
             line,
@@ -134,21 +131,15 @@ leave some out, or run the circuit with each --cutoff, and --output trace",
 
 // The line that a pass ended at, from the window.
 fn tell_line(name: &[u8], bytes: &[u8], pass: Pass) {
-    let window = pass.window;
-    let from = window.from;
-    let to = window.to;
     tell_place(name, pass.line);
-    if from <= to {
-        if to <= bytes.len() {
-            tell_outcome(&bytes[from..to], pass);
-        }
+    if let Some(line) = bytes.get(pass.window.from..pass.window.to) {
+        tell_outcome(line, pass);
     }
 }
 
 // Why a pass did not come to the circuit's end.
 pub fn tell(name: &[u8], bytes: &[u8], pass: Pass) {
-    let outcome = pass.outcome;
-    match outcome {
+    match pass.outcome {
         Outcome::Failed => printing::say_failed(name),
         Outcome::Cut => {
             printing::say(name);

@@ -8,45 +8,27 @@ DEPOLARIZE1 DEPOLARIZE2 I_ERROR[loss] I[reset_loss] TICK REPEAT)",
 
 // Whether a word is one of these names, with blanks between them.
 fn is_among(word: &[u8], names: &[u8]) -> bool {
-    let mut at: usize = 0;
-    while at < names.len() {
-        let end = scan::find(names, at, names.len(), b' ');
-        if circuit::is_named(word, &names[at..end]) {
-            return true;
-        }
-        if end == names.len() {
-            return false;
-        }
-        at = end + 1;
-    }
-    false
+    names
+        .split(|b| *b == b' ')
+        .any(|name| circuit::is_named(word, name))
 }
 
 // A line of a table has names, `:` and what is said of them. Whether it was said of this word.
 fn say_by_line(line: &[u8], word: &[u8]) -> bool {
     let colon = scan::find(line, 0, line.len(), b':');
-    if colon < line.len() {
-        if is_among(word, &line[0..colon]) {
-            let text = colon + 1;
-            printing::say(&line[text..]);
-            return true;
-        }
+    if colon < line.len() && is_among(word, &line[..colon]) {
+        printing::say(&line[colon + 1..]);
+        return true;
     }
     false
 }
 
 // .. by the lines of a table.
 fn say_by_table(table: &[u8], word: &[u8]) -> bool {
-    let mut at: usize = 0;
-    while at < table.len() {
-        let end = scan::find(table, at, table.len(), b'\n');
-        if say_by_line(&table[at..end], word) {
+    for line in table.split(|b| *b == b'\n') {
+        if say_by_line(line, word) {
             return true;
         }
-        if end == table.len() {
-            return false;
-        }
-        at = end + 1;
     }
     false
 }
@@ -84,12 +66,10 @@ the engine does not have this gate yet; write it by H, S and CX",
 }
 
 fn say_of_part(line: &[u8], from: usize, to: usize) -> bool {
-    if from <= to {
-        if to <= line.len() {
-            return say_of(&line[from..to]);
-        }
+    match line.get(from..to) {
+        Some(word) => say_of(word),
+        None => false,
     }
-    false
 }
 
 // The word that begins at a place is no instruction.

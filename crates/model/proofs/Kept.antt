@@ -1,5 +1,6 @@
 -- WHAT EVERY CALL KEEPS: a predicate of entries that no change of a weight, no branch and no gate breaks holds of each entry that a call
 -- leaves, if it holds of each that it is given. Over any way to hold entries, with keys or without. Assumes nothing.
+use Rattle.std.specs.Prelude.{Option, Some, None}
 use Prim.Native.Nat.{ℕ}
 use mathlib.Core.Path.{◌≡◌, refl, sym, subst}
 use mathlib.Core.Bool.{Bool, true, false, cond, ◌||◌}
@@ -24,8 +25,6 @@ use Rattle.model.specs.Calls.{Call, noise, reset, gate, truncate, normalise, tab
 use Rattle.model.specs.Qubits.{QubitsBelow}
 use Rattle.model.specs.declared.BranchMutation.{BranchMutation}
 use Rattle.model.specs.declared.BranchMutation.TheVariants.{Loss as loss}
-use Rattle.model.specs.declared.Found.{Found}
-use Rattle.model.specs.declared.Found.TheVariants.{At, Nothing}
 use Rattle.model.specs.declared.Gate.{Gate}
 use Rattle.model.specs.declared.Salts.{Salts}
 use Rattle.model.specs.declared.Size.{Size}
@@ -109,10 +108,10 @@ module _ {X : Type 0} (H : Holding X) (n : ℕ) (Q : X → Type 0) (k : Kept H n
   -- merging
 
   module _ (admit : ℕ → Bool) where
-    settled-keeps : (b : X) (t : Tally X) (i : Found) → Q b → Each Q t.entries → Each Q (settled H.weighed admit b t i).entries
+    settled-keeps : (b : X) (t : Tally X) (i : Option ℕ) → Q b → Each Q t.entries → Each Q (settled H.weighed admit b t i).entries
     unfolding settled stored_or_dropped gained
-    settled-keeps b t (At i) p a = each-altered Q (gained H.weighed b) (λ x q. k.weights _ x q) i a
-    settled-keeps b t Nothing p a = go (admit (weight_of H.weighed b))
+    settled-keeps b t (Some i) p a = each-altered Q (gained H.weighed b) (λ x q. k.weights _ x q) i a
+    settled-keeps b t None p a = go (admit (weight_of H.weighed b))
       where
         go : (x : Bool) → Each Q (stored_or_dropped H.weighed b t x).entries
         go true = each_append Q a (cons p nil)

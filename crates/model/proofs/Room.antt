@@ -1,4 +1,5 @@
 -- An accepted call leaves no more entries than the capacity. Over any way to hold entries, with keys or without. Assumes nothing.
+use Rattle.std.specs.Prelude.{Option, Some, None}
 use Prim.Native.Nat.{ℕ, zero, suc, ◌+◌, ◌-◌, ◌≤◌}
 use native.Mathlib.Nat.{le_refl}
 use native.Mathlib.Omega.{arith}
@@ -20,8 +21,6 @@ use Rattle.model.specs.Reset.{leaving_at, left_at, drained, reset_split, reset_t
 use Rattle.model.specs.Gates.{turned}
 use Rattle.model.specs.Calls.{Call, noise, reset, gate, truncate, normalise, table, pick, sheet, view, page, Sum, changed_to, cut_down, act}
 use Rattle.model.specs.declared.BranchMutation.TheVariants.{Loss as loss}
-use Rattle.model.specs.declared.Found.{Found}
-use Rattle.model.specs.declared.Found.TheVariants.{At, Nothing}
 use Rattle.model.specs.declared.Size.{Size}
 use Rattle.model.proofs.Merging.{length-altered}
 use Rattle.model.proofs.Yields.{Yields, given, not-given, yields-cond, yields-then, yields-map, yields-unless}
@@ -110,10 +109,10 @@ module _ {X : Type 0} (H : Holding X) (capacity : ℕ) where
   -- ---- merging: a branch adds one entry at most
 
   module _ (admit : ℕ → Bool) where
-    settled-length : (b : X) (t : Tally X) (i : Found) → length (settled H.weighed admit b t i).entries ≤ suc (length t.entries)
+    settled-length : (b : X) (t : Tally X) (i : Option ℕ) → length (settled H.weighed admit b t i).entries ≤ suc (length t.entries)
     unfolding settled stored_or_dropped
-    settled-length b t (At i) = omega (arith, length-altered (gained H.weighed b) i t.entries)
-    settled-length b t Nothing = go (admit (weight_of H.weighed b))
+    settled-length b t (Some i) = omega (arith, length-altered (gained H.weighed b) i t.entries)
+    settled-length b t None = go (admit (weight_of H.weighed b))
       where
         go : (x : Bool) → length (stored_or_dropped H.weighed b t x).entries ≤ suc (length t.entries)
         go true = omega (arith, length-append t.entries (b ∷ []))

@@ -1,8 +1,8 @@
 -- The nearest whole number to a quotient, by comparisons. Assumes nothing.
 use mathlib.Core.Path.{◌≡◌, refl, sym, ap, ◌∙◌, subst}
 use mathlib.Core.Bool.{not}
-use Prim.Native.Nat.{ℕ, ◌+◌, ◌*◌, ◌/◌, ◌%◌, ◌^◌, ◌≤◌, ◌<◌, compare, Ordering}
-use native.Mathlib.Nat.{le_of_eq, lt_of_lt_of_le, div-lt_iff_lt-mul, mul_comm, mul-add, mul-one, mul_left_comm, div-add-mod'}
+use Prim.Native.Nat.{ℕ, ◌+◌, ◌*◌, ◌/◌, ◌%◌, ◌≤◌, ◌<◌, compare, Ordering}
+use native.Mathlib.Nat.{mul_comm, mul-add, mul-one, mul_left_comm, div-add-mod'}
 use native.Mathlib.Numerals.{add-one}
 use native.Mathlib.Omega.{arith}
 use lib.Arith.{lt_of_le-ne}
@@ -67,6 +67,3 @@ closest-by-middle a b q e = ap (λ (k : ℕ). nearest k (compare (a * 2) (b * (2
     go Ordering.lt s = sym (picks-lower (a / b) (a * 2) (b * (2 * (a / b) + 1)) (omega (arith, whole, middle a b)))
     go Ordering.eq s = sym (picks-even (a / b) (a * 2) (b * (2 * (a / b) + 1)) (omega (arith, whole, middle a b)) (omega (arith, whole, middle a b)))
     go Ordering.gt s = sym (picks-upper (a / b) (a * 2) (b * (2 * (a / b) + 1)) (omega (arith, whole, middle a b))) ∙ add-one (a / b)
-
-pub quotient-small : (a b q : ℕ) → q ≡ a / b → 0 < b → a < b * 2 ^ 53 → q < 2 ^ 53
-quotient-small a b q e p h = subst (λ (k : ℕ). k < 2 ^ 53) (sym e) ((div-lt_iff_lt-mul p).1 (lt_of_lt_of_le h (le_of_eq (mul_comm b (2 ^ 53)))))

@@ -5,10 +5,10 @@ use mathlib.Core.List.{List, [], ◌∷◌}
 use Prim.Native.Nat.{ℕ, zero, suc, ◌+◌, ◌*◌, ◌^◌, ◌<◌}
 use native.Mathlib.Nat.{zero-mul, mul-one, mul_assoc, mul_comm, mul_left_comm, mul-pos, lt_of_lt_of_le, pow-suc, pow-succ'}
 use native.Mathlib.Omega.{arith}
-use lib.Dec.{T, eqb, lit≤, le→leb}
+use lib.Dec.{eqb, lit≤}
 use lib.IntN.{pos}
 use lib.Pow.{pow_mono, shl_lt}
-use lib.Ieee.{Float, nan, inf, fin, binary64, up, down, of_int, in_float, mul, div, round}
+use lib.Ieee.{Float, nan, inf, fin, binary64, up, down, of_int, mul, div, round}
 use lib.Ieee.Exact.{HasValue, round_exact}
 use lib.Ieee.Fits.{down_pos}
 use lib.Ieee.Scale.{round_same}
@@ -16,10 +16,6 @@ use lib.ListN.{length, get_or}
 use borrow.Author.Tests.{ne_eqb, eqb-true}
 
 -- ---- a whole number below 2^53 as a float
-
-pub cast-exact : (m : ℕ) → m < 2 ^ 53 → T (in_float binary64 (pos m))
-unfolding in_float
-cast-exact m h = le→leb m (2 ^ 53) (omega arith)
 
 pub whole-exact : (m : ℕ) → m < 2 ^ 53 → HasValue (of_int binary64 (pos m)) false m 1
 unfolding of_int

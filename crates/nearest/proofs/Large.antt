@@ -12,7 +12,7 @@ use lib.Dec.{eqb, ltb}
 use lib.ListN.{length, get_or, take, drop, set, drop_of_length-le}
 use lib.Seq.{drop-cons, take_all, take-suc-set, drop-set-lt, append_snoc}
 use borrow.Author.Tests.{lt-ltb, le-ltb, ltb-true, ltb-false, eqb-true, eqb-false}
-use Rattle.nearest.specs.Large.{value_of, limit, Large}
+use Rattle.nearest.specs.Large.{value_of, limit}
 
 -- ---- a product
 
@@ -142,13 +142,6 @@ room-left v a f i n room p h e r =
 -- a number as long as b and at most b has room for a product where b has
 pub has_room : (a b : List ℕ) (f : ℕ) → value_of b * 2 ^ 56 < 256 ^ length b → length a ≡ length b → value_of a ≤ value_of b → f ≤ 2 ^ 56 → value_of a * f < 256 ^ length a
 has_room a b f r l h k = subst (λ (n : ℕ). value_of a * f < 256 ^ n) (sym l) (lt_of_le_of_lt (mul-le-mul h k) r)
-
-pub large-room : (a : List ℕ) → Large a → value_of a * 2 ^ 56 < 256 ^ length a
-large-room a h = omega (arith, h.room)
-
--- and so has twice a product of b
-pub has-double-room : (a b : List ℕ) → value_of b * 2 ^ 56 < 256 ^ length b → length a ≡ length b → value_of a < value_of b * 2 ^ 53 → value_of a * 2 < 256 ^ length a
-has-double-room a b r l h = subst (λ (n : ℕ). value_of a * 2 < 256 ^ n) (sym l) (omega arith)
 
 -- a number within the limit was doubled fewer than 2200 times
 pub few-doublings : (v k : ℕ) → 0 < v → v * 2 ^ k < limit → k < 2200

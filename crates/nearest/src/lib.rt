@@ -2,7 +2,7 @@
 // and else by exact arithmetic on numbers of many bytes.
 #![tactic(auto)]
 
-ghost use Rattle.std.specs.Prelude.{◌≡◌, false, cond, eqb, ltb, length};
+ghost use Rattle.std.specs.Prelude.{◌≡◌, false, cond, eqb, ltb, length, replicate};
 ghost use Prim.Native.Nat.{◌^◌, ◌<◌, ◌≤◌, ◌*◌, ◌/◌, compare};
 ghost use Rattle.std.specs.Float.{binary64};
 ghost use Rattle.std.specs.Float.Ieee.{nearest, units, round, to_bits};
@@ -18,11 +18,9 @@ fn put(a: &mut [u8], m: u64)
     ensures { value_of a.new ≡ m }
 {
     let mut rest = m;
-    let mut i: usize = 0;
-    while i < a.len() {
-        a[i] = (rest % 256) as u8;
-        rest = rest / 256;
-        i += 1;
+    for byte in a.iter_mut() {
+        *byte = (rest % 256) as u8;
+        rest /= 256;
     }
 }
 
@@ -31,13 +29,11 @@ fn times(a: &mut [u8], factor: u64)
     requires { (factor < 2 ^ 56) × (value_of a.old * factor < 256 ^ length a.old) }
     ensures { value_of a.new ≡ value_of a.old * factor }
 {
-    let mut carry: u64 = 0;
-    let mut i: usize = 0;
-    while i < a.len() {
-        let x = a[i] as u64 * factor + carry;
-        a[i] = (x % 256) as u8;
+    let mut carry = 0;
+    for byte in a.iter_mut() {
+        let x = u64::from(*byte) * factor + carry;
+        *byte = (x % 256) as u8;
         carry = x / 256;
-        i += 1;
     }
 }
 
@@ -45,10 +41,7 @@ fn times(a: &mut [u8], factor: u64)
 fn by_byte(below: bool, x: u8, y: u8) -> bool
     ensures { result ≡ cond (eqb x y) below (ltb x y) }
 {
-    if x == y {
-        return below;
-    }
-    x < y
+    if x == y { below } else { x < y }
 }
 
 // Whether a is below b.
@@ -57,10 +50,8 @@ fn less(a: &[u8], b: &[u8]) -> bool
     ensures { result ≡ ltb (value_of a.now) (value_of b.now) }
 {
     let mut below = false;
-    let mut i: usize = 0;
-    while i < a.len() {
-        below = by_byte(below, a[i], b[i]);
-        i += 1;
+    for (i, x) in a.iter().enumerate() {
+        below = by_byte(below, *x, b[i]);
     }
     below
 }
@@ -70,10 +61,8 @@ fn raised(a: &mut [u8], factor: u64, count: usize)
     requires { (factor < 2 ^ 56) × (0 < factor) × (value_of a.old * factor ^ count < 256 ^ length a.old) }
     ensures { value_of a.new ≡ value_of a.old * factor ^ count }
 {
-    let mut i: usize = 0;
-    while i < count {
+    for _ in 0..count {
         times(a, factor);
-        i += 1;
     }
 }
 
@@ -87,17 +76,6 @@ fn grouped(a: &mut [u8], factor: u64, many: u64, group: usize, count: usize)
     raised(a, factor, count % group);
 }
 
-fn copy(to: &mut [u8], from: &[u8])
-    requires { length to.old ≡ length from.now }
-    ensures { to.new ≡ from.now }
-{
-    let mut j: usize = 0;
-    while j < from.len() {
-        to[j] = from[j];
-        j += 1;
-    }
-}
-
 // ---- rounded
 
 // How often v can be multiplied by the factor and stay at most n, and v so multiplied.
@@ -106,11 +84,11 @@ fn climb(n: &[u8], v: &mut [u8], room: &mut [u8], factor: u64) -> u64
     requires v_nonzero { (0 < value_of v.old) × (value_of v.old ≤ value_of n.now) × (2 ≤ factor) × (factor < 2 ^ 56) }
     ensures { Climbed (value_of n.now) (value_of v.old) factor result (value_of v.new) }
 {
-    let mut k: u64 = 0;
-    copy(room, v);
+    let mut k = 0;
+    room.copy_from_slice(v);
     times(room, factor);
     while !less(n, room) {
-        copy(v, room);
+        v.copy_from_slice(room);
         times(room, factor);
         k += 1;
     }
@@ -137,11 +115,11 @@ fn quotient(a: &[u8], b: &[u8], room: &mut [u8]) -> u64
     requires { Fraction a.now b.now room.old }
     ensures { result ≡ value_of a.now / value_of b.now }
 {
-    let mut low: u64 = 0;
-    let mut high: u64 = 0x20_0000_0000_0000;
+    let mut low = 0;
+    let mut high = 0x20_0000_0000_0000;
     while low + 1 < high {
         let middle = (low + high) / 2;
-        copy(room, b);
+        room.copy_from_slice(b);
         times(room, middle);
         if less(a, room) {
             high = middle;
@@ -158,12 +136,12 @@ fn settle(twice: &[u8], middle: &[u8], q: u64) -> u64
     ensures { result ≡ nearest q (compare (value_of twice.now) (value_of middle.now)) }
 {
     if less(twice, middle) {
-        return q;
+        q
+    } else if less(middle, twice) {
+        q + 1
+    } else {
+        q + q % 2
     }
-    if less(middle, twice) {
-        return q + 1;
-    }
-    q + q % 2
 }
 
 // a / b to the nearest whole number, a tie to the even one.
@@ -172,7 +150,7 @@ fn closest_to(a: &mut [u8], b: &[u8], room: &mut [u8]) -> u64
     ensures { result ≡ closest (value_of a.old) (value_of b.now) }
 {
     let q = quotient(a, b, room);
-    copy(room, b);
+    room.copy_from_slice(b);
     times(room, 2 * q + 1);
     times(a, 2);
     settle(a, room, q)
@@ -184,10 +162,7 @@ fn pattern(q: u64, k: u64) -> u64
     ensures { result ≡ to_bits binary64 (units binary64 false q k) }
 {
     let bits = k * 0x10_0000_0000_0000 + q;
-    if 0x7ff0_0000_0000_0000 <= bits {
-        return 0x7ff0_0000_0000_0000;
-    }
-    bits
+    bits.min(0x7ff0_0000_0000_0000)
 }
 
 // The bits of the f64 nearest to num / den, of n = num × 2^(1074 - lift) and v = den × 2^53.
@@ -238,37 +213,28 @@ fn exact_in(
     rounded(n, v, room, 1074 - 6 * count as u64)
 }
 
-// The same in 48 bytes: the value is above 2^-91, so 64^24 leaves the quotient its 53 digits.
-fn exact_short(m: u64, up: usize, down: usize) -> u64
-    requires { (m < digit_limit) × (0 < m) × (up ≤ 27) × (down ≤ 27) }
+// The same in BYTES bytes.
+fn exact_within<const BYTES: usize>(m: u64, up: usize, down: usize, count: usize) -> u64
+    requires { (BYTES ≤ 288) × Sized (replicate BYTES 0) (replicate BYTES 0) (replicate BYTES 0) m up down count }
     ensures { result ≡ to_bits binary64 (round binary64 false (m * 10 ^ up) (10 ^ down)) }
 {
-    let mut n = [0u8; 48];
-    let mut v = [0u8; 48];
-    let mut room = [0u8; 48];
-    exact_in(&mut n, &mut v, &mut room, m, up, down, 24)
+    let mut n = [0u8; BYTES];
+    let mut v = [0u8; BYTES];
+    let mut room = [0u8; BYTES];
+    exact_in(&mut n, &mut v, &mut room, m, up, down, count)
 }
 
-// The same in 288 bytes: 64^179 is 2^1074, by which every f64 is whole.
-fn exact_long(m: u64, up: usize, down: usize) -> u64
-    requires { (m < digit_limit) × (up ≤ 308) × (down ≤ 342) }
-    ensures { result ≡ to_bits binary64 (round binary64 false (m * 10 ^ up) (10 ^ down)) }
-{
-    let mut n = [0u8; 288];
-    let mut v = [0u8; 288];
-    let mut room = [0u8; 288];
-    exact_in(&mut n, &mut v, &mut room, m, up, down, 179)
-}
-
-// The same, in the bytes that it takes.
+// The same, in the bytes that it takes. In 48: the value is above 2^-91, so 64^24 leaves the quotient its 53 digits. In 288: 64^179 is 2^1074,
+// by which every f64 is whole.
 fn exact(m: u64, up: usize, down: usize) -> u64
     requires { (m < digit_limit) × (up ≤ 308) × (down ≤ 342) }
     ensures { result ≡ to_bits binary64 (round binary64 false (m * 10 ^ up) (10 ^ down)) }
 {
     if m != 0 && up <= 27 && down <= 27 {
-        return exact_short(m, up, down);
+        exact_within::<48>(m, up, down, 24)
+    } else {
+        exact_within::<288>(m, up, down, 179)
     }
-    exact_long(m, up, down)
 }
 
 // ---- small powers of ten
@@ -317,7 +283,7 @@ pub fn multiplied(m: u64, up: u64) -> f64
         return 0.0;
     }
     if 308 < up {
-        return 1.0 / 0.0;
+        return f64::INFINITY;
     }
     words::float_of(exact(m, up as usize, 0))
 }

@@ -16,8 +16,15 @@ use Rattle.model.proofs.Entries.{length-listed}
 use Rattle.model.specs.Sound.{Packed}
 use Rattle.weights.specs.Outcomes.{Normalised, Truncated}
 use Rattle.weights.specs.declared.Cut.{Cut}
-use Rattle.noise.specs.Finish.{Renormalised, Finished, ending}
+use Rattle.noise.specs.Finish.{Renormalised, Finished, left_by, number_of, ending}
+use Rattle.noise.specs.declared.Refusal.{Refusal}
+use Rattle.noise.specs.declared.Refusal.TheVariants.{NoRoom, TotalZero}
+use Rattle.std.specs.Prelude.{Result as Ended, Ok, Err}
 use Rattle.merging.specs.declared.Progress.{Progress}
+
+-- two constructors are never equal: `cc` shows this first
+never : {A : Type 0} → ◌≡◌ {A = ℕ} 0 1 → A
+never z = absurd (omega arith)
 
 module _ (s : Size) (p : Progress) (w : List ℕ) where
   pub some-dropped : {r : Bool} {w' : List ℕ} → 0 < p.dropped → Normalised s p.count w r w' → Renormalised s p w r w'
@@ -37,8 +44,8 @@ module _ (s : Size) (p : Progress) (w : List ℕ) where
       }
 
   module _ (cutoff : Float) (g : Packed s p.count w) where
-    abbrev Ends : ℕ → ℕ → Float → List ℕ → Type 0
-    Ends number count taken w' = Finished s cutoff p w (record { number = number; count = count; taken = taken }) w'
+    abbrev Ends : Ended Cut Refusal → List ℕ → Type 0
+    Ends r w' = Finished s cutoff p w r w'
 
     -- there is room, so the list is normalised if anything was dropped, and truncated
     pub with-room : {r : Bool} {w' : List ℕ} → Renormalised s p w r w'
@@ -49,32 +56,33 @@ module _ (s : Size) (p : Progress) (w : List ℕ) where
         (le-ltb s.capacity (length (listed s p.count w)) (omega (arith, length-listed s p.count w, g.room)))
         ∙ ap (and_then (truncated keyed_weighed cutoff)) n.result
 
-    pub no-room-left : (taken : Float) → p.full ≡ true → Ends 6 p.count taken w
-    no-room-left taken f =
+    pub no-room-left : p.full ≡ true → Ends (Err NoRoom) w
+    unfolding left_by
+    no-room-left f =
         record {
           packed = g;
           full = λ z. refl;
           result = λ z. absurd (true≢false (sym f ∙ z));
-          unchanged = λ z. (refl, refl);
+          unchanged = λ q e. refl;
         }
 
     module _ (o : p.full ≡ false) where
-      pub ended : {v w' : List ℕ} {r : Cut} → Renormalised s p w true v → Truncated s p.count cutoff v r w' → Ends 0 r.left r.taken w'
-      unfolding ending and_then
+      pub ended : {v w' : List ℕ} {r : Cut} → Renormalised s p w true v → Truncated s p.count cutoff v r w' → Ends (Ok r) w'
+      unfolding left_by ending and_then
       ended n t =
           record {
             packed = t.packed;
             full = λ z. absurd (true≢false (sym z ∙ o));
             result = λ z. with-room n ∙ t.result;
-            unchanged = λ z. absurd (z refl);
+            unchanged = λ q e. never (cc);
           }
 
-      pub nothing_left : (taken : Float) {v : List ℕ} → Renormalised s p w false v → Ends 9 p.count taken v
-      unfolding ending and_then
-      nothing_left taken n =
+      pub nothing_left : {v : List ℕ} → Renormalised s p w false v → Ends (Err TotalZero) v
+      unfolding left_by number_of ending and_then
+      nothing_left n =
           record {
             packed = n.packed;
             full = λ z. absurd (true≢false (sym z ∙ o));
             result = λ z. with-room n;
-            unchanged = λ z. (n.unchanged refl, refl);
+            unchanged = λ q e. n.unchanged refl;
           }

@@ -3,7 +3,7 @@
 use mathlib.Core.Path.{◌≡◌, refl, sym, ap, ap₂, subst, ◌∙◌}
 use mathlib.Core.Bool.{Bool, true, false, cond, true≢false}
 use mathlib.Core.List.{List, map}
-use Prim.Native.Nat.{ℕ, zero, suc, ◌≤◌}
+use Prim.Native.Nat.{ℕ, ◌≤◌}
 use native.Mathlib.Omega.{arith}
 use lib.Ieee.{Float}
 use lib.ListN.{length, take}
@@ -32,8 +32,11 @@ use Rattle.merging.specs.Progress.{tally_of, unweighed, answered}
 use Rattle.spread.specs.Branches.{scaled_by, branches_by}
 use Rattle.arms.specs.Arms.{Stands}
 use Rattle.spread.specs.Spread.{keep_by, split_for, merging, Spread}
-use Rattle.noise.specs.Finish.{Finished, ending, acted_ready}
-use Rattle.noise.specs.declared.Ending.{Ending}
+use Rattle.noise.specs.Finish.{Finished, left_by, number_of, ending, acted_ready}
+use Rattle.noise.specs.declared.Refusal.{Refusal}
+use Rattle.noise.specs.declared.Refusal.TheVariants.{NoRoom, TotalZero}
+use Rattle.weights.specs.declared.Cut.{Cut as Kept}
+use Rattle.std.specs.Prelude.{Result as Ended, Ok, Err}
 use Rattle.merging.specs.declared.Progress.{Progress}
 use Rattle.spread.proofs.Split.{map_is, scaled-is, branches-of}
 
@@ -62,6 +65,11 @@ module _ (s : Size) (threshold cutoff : Float) (r : Arms) (c : Noise) (h : Stand
 
 -- ---- the answers
 
+pub number-not-0 : (q : Refusal) → number_of q ≡ 0 → ⊥
+unfolding number_of
+number-not-0 NoRoom e = omega arith
+number-not-0 TotalZero e = omega arith
+
 module _ (x : Lent) (r : Arms) (c : Noise) (h : Stands r c) (p : Progress) (w₃ : List ℕ) where
   abbrev hd : Header
   hd = x.header
@@ -75,78 +83,67 @@ module _ (x : Lent) (r : Arms) (c : Noise) (h : Stands r c) (p : Progress) (w₃
       pub same-tally : noise_tally (engine hd.size hd.threshold) hd.cutoff c ds ≡ tally_of hd.size p w₃
       same-tally = sym (t.tally o ∙ tally-is hd.size hd.threshold hd.cutoff r c h ds)
 
-      pub ends_as : (n : ℕ) (taken : Float) (es : List Keyed) → finished keyed_weighed hd.size.capacity hd.cutoff p.dropped (listed hd.size p.count w₃) ≡ ending n taken es
-          → act engine (noise c) (sum_of x) ≡ map_result changed_to (map_result (with_cut (engine hd.size hd.threshold) (tally_of hd.size p w₃)) (ending n taken es))
+      pub ends_as : (r : Ended Kept Refusal) (es : List Keyed) → finished keyed_weighed hd.size.capacity hd.cutoff p.dropped (listed hd.size p.count w₃) ≡ ending r es
+          → act engine (noise c) (sum_of x) ≡ map_result changed_to (map_result (with_cut (engine hd.size hd.threshold) (tally_of hd.size p w₃)) (ending r es))
       unfolding act channelled
-      ends_as n taken es e =
+      ends_as r es e =
           ap (λ (u : Tally Keyed). map_result changed_to (map_result (with_cut (engine hd.size hd.threshold) u) (finished keyed_weighed hd.size.capacity hd.cutoff u.dropped u.entries))) same-tally
           ∙ ap (λ (f : Result (Cut Keyed)). map_result changed_to (map_result (with_cut (engine hd.size hd.threshold) (tally_of hd.size p w₃)) f)) e
 
     -- ---- accepted
 
-    module _ (n count : ℕ) (taken : Float) (w₄ : List ℕ) (f : Finished hd.size hd.cutoff p w₃ (record { number = n; count = count; taken = taken }) w₄) where
-      abbrev after : List Keyed
-      after = listed hd.size count w₄
+    module _ (k : Kept) (w₄ : List ℕ) (f : Finished hd.size hd.cutoff p w₃ (Ok k) w₄) where
+      has_room : (b : Bool) → p.full ≡ b → p.full ≡ false
+      has_room false e = e
+      has_room true e = let g = f.full e in let z : true ≡ false = cc in e ∙ z
 
-      has_room : n ≡ 0 → p.full ≡ false
-      has_room z = go p.full refl
-        where
-          go : (b : Bool) → p.full ≡ b → p.full ≡ false
-          go false e = e
-          go true e = absurd (omega (arith, f.full e, z))
-
-      pub ran-0 : n ≡ 0 → gave (answered hd count p taken) w₄ ≡ acted_ready c x
-      unfolding left map_result ending kind_of dirty_after words_after tested_by split_by split_as split_in accepted
-      ran-0 z =
-          let o = has_room z in
-          let e = f.result o ∙ ap (λ (k : ℕ). ending k taken after) z in
+      pub ran-accepted : gave (answered hd k.left p k.taken) w₄ ≡ acted_ready c x
+      unfolding left left_by map_result ending kind_of dirty_after words_after tested_by split_by split_as split_in accepted
+      ran-accepted =
+          let o = has_room p.full refl in
           sym
-          (ap (left (noise c) x (sum_of x)) (ends_as o 0 taken after e)
-          ∙ rw (length-listed hd.size count w₄, ← packed-is hd.size count w₄ f.packed, sym (t.compared o ∙ tested-is hd.size hd.threshold hd.cutoff r c h ds)))
+          (ap (left (noise c) x (sum_of x)) (ends_as o (Ok k) (listed hd.size k.left w₄) (f.result o))
+          ∙ rw (length-listed hd.size k.left w₄, ← packed-is hd.size k.left w₄ f.packed, sym (t.compared o ∙ tested-is hd.size hd.threshold hd.cutoff r c h ds)))
 
-      -- ---- refused
+    -- ---- refused
 
-      overfull : p.full ≡ true → act engine (noise c) (sum_of x) ≡ refused 6
-      unfolding act channelled map_result
-      overfull e =
-          let u = noise_tally (engine hd.size hd.threshold) hd.cutoff c ds in
-          ap (λ (g : Result (Cut Keyed)). map_result changed_to (map_result (with_cut (engine hd.size hd.threshold) u) g))
-          (no_room keyed_weighed hd.size.capacity hd.cutoff u.dropped u.entries
-          (omega (arith, t.overflow e, ap (λ (v : Tally Keyed). length v.entries) (tally-is hd.size hd.threshold hd.cutoff r c h ds))))
+    overfull : p.full ≡ true → act engine (noise c) (sum_of x) ≡ refused 6
+    unfolding act channelled map_result
+    overfull e =
+        let u = noise_tally (engine hd.size hd.threshold) hd.cutoff c ds in
+        ap (λ (g : Result (Cut Keyed)). map_result changed_to (map_result (with_cut (engine hd.size hd.threshold) u) g))
+        (no_room keyed_weighed hd.size.capacity hd.cutoff u.dropped u.entries
+        (omega (arith, t.overflow e, ap (λ (v : Tally Keyed). length v.entries) (tally-is hd.size hd.threshold hd.cutoff r c h ds))))
 
-      refused_as : (k : ℕ) → n ≡ suc k → (b : Bool) → p.full ≡ b → act engine (noise c) (sum_of x) ≡ refused n
-      unfolding ending map_result
-      refused_as k z true e = overfull e ∙ ap refused (sym (f.full e))
-      refused_as k z false e = ends_as e (suc k) taken after (f.result e ∙ ap (λ (m : ℕ). ending m taken after) z) ∙ ap refused (sym z)
+    module _ (q : Refusal) (w₄ : List ℕ) (f : Finished hd.size hd.cutoff p w₃ (Err q) w₄) where
+      refused_as : (b : Bool) → p.full ≡ b → act engine (noise c) (sum_of x) ≡ refused (number_of q)
+      unfolding number_of ending map_result
+      refused_as true e = let g = f.full e in let z : q ≡ NoRoom = cc in overfull e ∙ ap (λ (r : Refusal). refused (number_of r)) (sym z)
+      refused_as false e = ends_as e (Err q) (listed hd.size (left_by p (Err q)) w₄) (f.result e)
 
-      pub ran-refused : (n ≡ 0 → ⊥) → gave (plain_answer hd n) x.words ≡ acted_ready c x
+      pub ran-refused : gave (plain_answer hd (number_of q)) x.words ≡ acted_ready c x
       unfolding left
-      ran-refused z = go n refl
-        where
-          go : (m : ℕ) → n ≡ m → gave (plain_answer hd n) x.words ≡ acted_ready c x
-          go zero e = absurd (z e)
-          go (suc k) e = sym (ap (left (noise c) x (sum_of x)) (refused_as k e p.full refl))
+      ran-refused = sym (ap (left (noise c) x (sum_of x)) (refused_as p.full refl))
 
 -- ---- undone
 
-module _ (s : Size) (count : ℕ) (w : List ℕ) (threshold cutoff : Float) (r : Arms) (p : Progress) (w₃ : List ℕ) (t : Spread s threshold cutoff r (listed s count w) p w₃)
-    (e : Ending) (w₄ : List ℕ) (f : Finished s cutoff p w₃ e w₄) (z : e.number ≡ 0 → ⊥) where
-  pub at_least : count ≤ e.count
-  at_least = omega (arith, (f.unchanged z).1, t.grows, length-listed s count w)
+module _ (s : Size) (count : ℕ) (w : List ℕ) (threshold cutoff : Float) (r : Arms) (p : Progress) (w₃ : List ℕ) (t : Spread s threshold cutoff r (listed s count w) p w₃) where
+  pub at_least : count ≤ p.count
+  at_least = omega (arith, t.grows, length-listed s count w)
 
-  front-is : map unweighed (take count (listed s e.count w₄)) ≡ map unweighed (listed s count w)
-  front-is =
-      ap₂ (λ (k : ℕ) (v : List ℕ). map unweighed (take count (listed s k v))) (f.unchanged z).1 (f.unchanged z).0
-      ∙ ap (λ (k : ℕ). map unweighed (take k (listed s p.count w₃))) (sym (length-listed s count w))
-      ∙ t.front
+  module _ (q : Refusal) (w₄ : List ℕ) (f : Finished s cutoff p w₃ (Err q) w₄) where
+    front-is : map unweighed (take count (listed s p.count w₄)) ≡ map unweighed (listed s count w)
+    front-is =
+        ap₂ (λ (k : ℕ) (v : List ℕ). map unweighed (take k (listed s p.count v))) (sym (length-listed s count w)) (f.unchanged q refl)
+        ∙ t.front
 
-  -- the store is as it was
-  pub undone : (saved v : List ℕ) → take count saved ≡ map (weight_of keyed_weighed) (listed s count w) → Packed s count w → Packed s count v
-      → listed s count v ≡ with_weights (take count saved) (take count (listed s e.count w₄)) → v ≡ w
-  unfolding Restored.unweighed
-  undone saved v o g k l =
-      let fs = take count (listed s e.count w₄) in
-      same_store s count v w k g (l ∙ ap (λ (u : List ℕ). with_weights u fs) o ∙ Restored.weights-restored fs (listed s count w) front-is)
+    -- the store is as it was
+    pub undone : (saved v : List ℕ) → take count saved ≡ map (weight_of keyed_weighed) (listed s count w) → Packed s count w → Packed s count v
+        → listed s count v ≡ with_weights (take count saved) (take count (listed s p.count w₄)) → v ≡ w
+    unfolding Restored.unweighed
+    undone saved v o g k l =
+        let fs = take count (listed s p.count w₄) in
+        same_store s count v w k g (l ∙ ap (λ (u : List ℕ). with_weights u fs) o ∙ Restored.weights-restored fs (listed s count w) front-is)
 
 -- ---- by the flag
 

@@ -21,10 +21,7 @@ pub fn rates_refused(arms: Arms, named: bool) -> bool
     requires { arms.count ≤ 15 }
     ensures { (c : Noise) → Stands arms c → named ≡ every (up_to (float one_bits)) (rates c) → result ≡ not (rates_sound c) }
 {
-    if named {
-        return 1.0 < arms::total_rate(arms);
-    }
-    true
+    !named || 1.0 < arms::total_rate(arms)
 }
 
 // Number 3 or 4 of any noise on n qubits that has these branches, or 0; `named`: the rates that it names are sound.
@@ -33,8 +30,7 @@ fn own_number(n: usize, arms: Arms, named: bool) -> u64
     ensures shape_below { result ≡ 0 → ShapeBelow n arms.shape }
     ensures value { (c : Noise) → Stands arms c → named ≡ every (up_to (float one_bits)) (rates c) → result ≡ first_of (gives 3 (some_not_below n (qubits c)) ∷ gives 4 (not (rates_sound c)) ∷ []) }
 {
-    let shape = arms.shape;
-    if arms::outside(n, shape) {
+    if arms::outside(n, arms.shape) {
         return 3;
     }
     checks::test(4, rates_refused(arms, named))
@@ -46,9 +42,7 @@ fn noise_number(h: Header, store: &[u64], arms: Arms, named: bool, known: bool) 
     ensures may_run { result ≡ 0 → MayRun (held h store.now) arms }
     ensures store_value { (c : Noise) → Stands arms c → named ≡ every (up_to (float one_bits)) (rates c) → step (Calls.noise c) (held h store.now) ≡ tested (held h store.now) result (acted (Calls.noise c) (held h store.now)) }
 {
-    let size = h.size;
-    let own = own_number(size.n, arms, named);
-    checks::front(h, store, own, known)
+    checks::front(h, store, own_number(h.size.n, arms, named), known)
 }
 
 // ---- the calls

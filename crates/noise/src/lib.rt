@@ -11,7 +11,7 @@ ghost use Rattle.model.specs.Calls as Calls;
 ghost use Rattle.model.specs.Sound.{Packed};
 ghost use Rattle.rebuild.specs.Saved.{with_weights};
 ghost use Rattle.arms.specs.Arms.{Stands};
-ghost use Rattle.noise.specs.Finish.{Renormalised, Finished, acted_ready};
+ghost use Rattle.noise.specs.Finish.{number_of, Renormalised, Finished, acted_ready};
 ghost use Rattle.noise.specs.Tests.{MayRun};
 
 use arms::Arms;
@@ -21,15 +21,27 @@ pub use calls::{
 };
 use merging::{Limits, Progress};
 use model::{Answer, Header, Size};
+use weights::Cut;
 
 // ---- the end of a channel
 
-// How it ended: its number, the entries listed, and the weight that truncating took.
+// Why a channel is refused that its tests let through: a branch found no room, or the entries that are left have a total of 0.
 #[derive(Clone, Copy)]
-pub struct Ending {
-    pub number: u64,
-    pub count: usize,
-    pub taken: f64,
+pub enum Refusal {
+    NoRoom,
+    TotalZero,
+}
+
+impl Refusal {
+    // The number that the call gives.
+    fn number(self) -> u64
+        ensures { result ≡ number_of self }
+    {
+        match self {
+            Refusal::NoRoom => 6,
+            Refusal::TotalZero => 9,
+        }
+    }
 }
 
 // Normalised if anything was dropped. The answer is false for a list that is not empty and whose total is 0; it is left as it is.
@@ -38,36 +50,24 @@ pub fn renormalise(store: &mut [u64], size: Size, p: Progress) -> bool
     ensures { Renormalised size p store.old result store.new }
 {
     if 0 < p.dropped {
-        return weights::normalise_entries(store, size, p.count);
+        weights::normalise_entries(store, size, p.count)
+    } else {
+        true
     }
-    true
 }
 
-// 6 if a branch found no room; normalised if anything was dropped, or 9; then truncated.
-pub fn finish(store: &mut [u64], size: Size, cutoff: f64, p: Progress) -> Ending
+// Refused if a branch found no room; normalised if anything was dropped, or refused; then truncated.
+pub fn finish(store: &mut [u64], size: Size, cutoff: f64, p: Progress) -> Result<Cut, Refusal>
     requires { Packed size p.count store.old × (finite_from_zero cutoff ≡ true) }
     ensures { Finished size cutoff p store.old result store.new }
 {
     if p.full {
-        return Ending {
-            number: 6,
-            count: p.count,
-            taken: 0.0,
-        };
+        return Err(Refusal::NoRoom);
     }
-    if renormalise(store, size, p) {
-        let cut = weights::truncate_entries(store, size, p.count, cutoff);
-        return Ending {
-            number: 0,
-            count: cut.left,
-            taken: cut.taken,
-        };
+    if !renormalise(store, size, p) {
+        return Err(Refusal::TotalZero);
     }
-    Ending {
-        number: 9,
-        count: p.count,
-        taken: 0.0,
-    }
+    Ok(weights::truncate_entries(store, size, p.count, cutoff))
 }
 
 // The first `count` of `total` entries with the weights they had before the call, and no others.
@@ -96,12 +96,13 @@ pub fn run_ready(h: Header, store: &mut [u64], arms: Arms) -> Answer
     };
     let mut saved = [0u64; 256];
     let p = spread::spread(store, &mut saved, limits, arms, count);
-    let end = finish(store, size, h.cutoff, p);
-    if end.number == 0 {
-        return merging::answer(h, end.count, p, end.taken);
+    match finish(store, size, h.cutoff, p) {
+        Ok(cut) => merging::answer(h, cut.left, p, cut.taken),
+        Err(refusal) => {
+            undo(store, size, count, p.count, &saved);
+            answers::plain_answer(h, refusal.number())
+        }
     }
-    undo(store, size, count, end.count, &saved);
-    answers::plain_answer(h, end.number)
 }
 
 // A dirty sum's keys are rebuilt first. They are saved, since a refused channel leaves them as they were.
@@ -129,7 +130,8 @@ pub fn run(h: Header, store: &mut [u64], arms: Arms) -> Answer
     ensures { (c : Noise) → Stands arms c → Calls.gave result store.new ≡ Calls.acted (Calls.noise c) (Calls.held h store.old) }
 {
     if h.dirty {
-        return run_dirty(h, store, arms);
+        run_dirty(h, store, arms)
+    } else {
+        run_ready(h, store, arms)
     }
-    run_ready(h, store, arms)
 }

@@ -1,9 +1,10 @@
 // The arguments of run_circuit.
 #![tactic(auto)]
 
-ghost use Rattle.std.specs.Prelude.{◌+◌, ◌<◌, ◌≤◌, ◌≡◌, length};
+ghost use Rattle.std.specs.Prelude.{◌+◌, ◌<◌, ◌≤◌, ◌≡◌, ◌⊎◌, length, IfOk, IfSome};
+ghost use Rattle.std.specs.Fn.{FnReturnsAt};
 ghost use Rattle.io.specs.Counts.{IsPrefixLen};
-ghost use Rattle.options.specs.Arguments.{count_of, no_count, bound_of, no_bound};
+ghost use Rattle.options.specs.Arguments.{count_of, bound_of};
 
 use std::env::{Env, FillError};
 
@@ -27,6 +28,12 @@ enum Kind {
     // What follows is no option.
     End,
     File,
+}
+
+// Why an argument is refused.
+#[derive(Clone, Copy)]
+enum Refusal {
+    // There is no such option.
     Unknown,
     // More bytes than a name of a file can have.
     TooLong,
@@ -34,52 +41,19 @@ enum Kind {
 
 // ---- arguments, one by one
 
-fn begins_with_dash(argument: &[u8]) -> bool {
-    if 1 < argument.len() {
-        return argument[0] == b'-';
-    }
-    false
-}
-
 fn is_valued(name: &[u8]) -> bool {
-    if check::same(name, b"--qubits") {
-        return true;
-    }
-    if check::same(name, b"--threshold") {
-        return true;
-    }
-    if check::same(name, b"--cutoff") {
-        return true;
-    }
-    if check::same(name, b"--try-cutoffs") {
-        return true;
-    }
-    if check::same(name, b"--capacity") {
-        return true;
-    }
-    if check::same(name, b"--max-lost") {
-        return true;
-    }
-    if check::same(name, b"--tmpdir") {
-        return true;
-    }
-    if check::same(name, b"--report") {
-        return true;
-    }
-    check::same(name, b"--output")
-}
-
-fn is_flag(name: &[u8]) -> bool {
-    if check::same(name, b"--quiet") {
-        return true;
-    }
-    if check::same(name, b"-h") {
-        return true;
-    }
-    if check::same(name, b"--version") {
-        return true;
-    }
-    check::same(name, b"--help")
+    matches!(
+        name,
+        b"--qubits"
+            | b"--threshold"
+            | b"--cutoff"
+            | b"--try-cutoffs"
+            | b"--capacity"
+            | b"--max-lost"
+            | b"--tmpdir"
+            | b"--report"
+            | b"--output"
+    )
 }
 
 // Where an argument's name ends: at the first `=`, or with it.
@@ -89,43 +63,38 @@ fn name_end(argument: &[u8]) -> usize
     scan::find(argument, 0, argument.len(), b'=')
 }
 
-fn kind_of(argument: &[u8]) -> Kind {
-    if !begins_with_dash(argument) {
-        return Kind::File;
+fn kind_of(argument: &[u8]) -> Result<Kind, Refusal> {
+    match argument {
+        b"--" => Ok(Kind::End),
+        b"--quiet" | b"-h" | b"--version" | b"--help" => Ok(Kind::Flag),
+        [b'-', _, ..] => option_of(argument),
+        _ => Ok(Kind::File),
     }
-    if check::same(argument, b"--") {
-        return Kind::End;
-    }
-    if is_flag(argument) {
-        return Kind::Flag;
-    }
+}
+
+// .. of one that begins with a dash.
+fn option_of(argument: &[u8]) -> Result<Kind, Refusal> {
     if is_valued(argument) {
-        return Kind::Valued;
+        return Ok(Kind::Valued);
     }
     let end = name_end(argument);
-    if end < argument.len() {
-        if is_valued(&argument[0..end]) {
-            return Kind::Joined;
-        }
+    if end < argument.len() && is_valued(&argument[..end]) {
+        return Ok(Kind::Joined);
     }
-    Kind::Unknown
+    Err(Refusal::Unknown)
 }
 
 // Argument i.
-fn kind_at(rt: &impl Env, i: usize) -> Kind {
+fn kind_at(rt: &impl Env, i: usize) -> Result<Kind, Refusal> {
     let mut argument = io::buffer();
     match rt.arg(i, &mut argument) {
         Ok(n) => kind_of(&argument[..n]),
-        Err(_) => Kind::TooLong,
+        Err(_) => Err(Refusal::TooLong),
     }
 }
 
 fn is_end(rt: &impl Env, i: usize) -> bool {
-    let kind = kind_at(rt, i);
-    match kind {
-        Kind::End => true,
-        _ => false,
-    }
+    matches!(kind_at(rt, i), Ok(Kind::End))
 }
 
 // After argument i and its value, if it has one.
@@ -133,44 +102,35 @@ fn after(rt: &impl Env, i: usize) -> usize
     requires { i < 2147483648 }
     ensures { (i < result) × (result ≤ i + 2) }
 {
-    let kind = kind_at(rt, i);
-    if let Kind::Valued = kind {
-        return i + 2;
+    match kind_at(rt, i) {
+        Ok(Kind::Valued) => i + 2,
+        _ => i + 1,
     }
-    i + 1
 }
 
 // Whether there is an argument i.
 fn is_there(rt: &impl Env, i: usize) -> bool {
     let mut argument = io::buffer();
-    match rt.arg(i, &mut argument) {
-        Err(FillError::NotPresent) => false,
-        _ => true,
-    }
+    !matches!(rt.arg(i, &mut argument), Err(FillError::NotPresent))
 }
 
 // How many arguments are looked at: all that there are, but no more than these.
 fn arguments(rt: &impl Env) -> usize
     ensures { result ≤ 65536 }
 {
-    let mut n: usize = 0;
-    while n < 65536 {
+    for n in 0..65536 {
         if !is_there(rt, n) {
             return n;
         }
-        n += 1;
     }
-    n
+    65536
 }
 
 // Argument i, put at the start of a buffer; how many bytes it has, 0 if there is none or it has no room.
 pub fn put_argument(rt: &impl Env, i: usize, buffer: &mut [u8]) -> usize
     ensures { IsPrefixLen result buffer.new }
 {
-    match rt.arg(i, buffer) {
-        Ok(n) => n,
-        Err(_) => 0,
-    }
+    rt.arg(i, buffer).unwrap_or(0)
 }
 
 // ---- the place of an option
@@ -182,36 +142,25 @@ pub struct Place {
     pub from: usize,
 }
 
-fn nowhere() -> Place
-    ensures { result.argument ≤ 65536 }
-{
-    Place {
-        argument: 0,
-        from: 0,
-    }
-}
-
 // The value of this name in argument i, or after it.
-fn value_in(i: usize, argument: &[u8], name: &[u8]) -> Place
+fn value_in(i: usize, argument: &[u8], name: &[u8]) -> Option<Place>
     requires { i < 65536 }
-    ensures { result.argument ≤ 65536 }
+    ensures { IfSome result (λ place. place.argument ≤ 65536) }
 {
     if check::same(argument, name) {
-        return Place {
+        return Some(Place {
             argument: i + 1,
             from: 0,
-        };
+        });
     }
     let end = name_end(argument);
-    if end < argument.len() {
-        if check::same(&argument[0..end], name) {
-            return Place {
-                argument: i,
-                from: end + 1,
-            };
-        }
+    if end < argument.len() && check::same(&argument[..end], name) {
+        return Some(Place {
+            argument: i,
+            from: end + 1,
+        });
     }
-    nowhere()
+    None
 }
 
 fn value_at(rt: &impl Env, i: usize, name: &[u8], before: Place) -> Place
@@ -222,11 +171,7 @@ fn value_at(rt: &impl Env, i: usize, name: &[u8], before: Place) -> Place
     let Ok(n) = rt.arg(i, &mut argument) else {
         return before;
     };
-    let place = value_in(i, &argument[..n], name);
-    if place.argument == 0 {
-        return before;
-    }
-    place
+    value_in(i, &argument[..n], name).unwrap_or(before)
 }
 
 // The value of the last option of this name.
@@ -234,13 +179,17 @@ pub fn place_of(rt: &impl Env, name: &[u8]) -> Place
     ensures { result.argument ≤ 65536 }
 {
     let n = arguments(rt);
-    let mut place = nowhere();
+    let mut place = Place {
+        argument: 0,
+        from: 0,
+    };
     let mut i: usize = 1;
     while i < n {
         if is_end(rt, i) {
             return place;
         }
         place = value_at(rt, i, name, place);
+        // An option's value is passed over with it.
         i = after(rt, i);
     }
     place
@@ -276,88 +225,79 @@ fn say_second_file(rt: &impl Env, i: usize) {
     printing::say(b": one file was expected, and this is the second\n");
 }
 
-// Which argument is the file: 0 if there is none. `ok`: all arguments are known and complete, else it is said what is wrong.
+// The argument that is the file.
 #[derive(Clone, Copy)]
-pub struct File {
-    pub ok: bool,
-    pub place: usize,
+struct Named {
+    place: usize,
+    ghost within: { place ≤ 65536 },
 }
 
-// Argument i is a file.
-fn file_at(rt: &impl Env, i: usize, place: usize) -> File
-    requires { (i < 65536) × (place ≤ 65536) }
-    ensures { result.place ≤ 65536 }
+// It was said what is wrong.
+#[derive(Clone, Copy)]
+pub struct Said;
+
+// Argument i is a file; before it, `file` was one.
+fn file_at(rt: &impl Env, i: usize, file: Option<Named>) -> Result<Option<Named>, Said>
+    requires { i < 65536 }
 {
-    if place == 0 {
-        return File { ok: true, place: i };
+    if file.is_some() {
+        say_second_file(rt, i);
+        return Err(Said);
     }
-    say_second_file(rt, i);
-    File { ok: false, place }
+    Ok(Some(Named { place: i }))
 }
 
 // Argument i of n, after those before it.
-fn looked_at(rt: &impl Env, i: usize, n: usize, place: usize) -> File
-    requires { (i < 65536) × (place ≤ 65536) }
-    ensures { result.place ≤ 65536 }
+fn looked_at(rt: &impl Env, i: usize, n: usize, file: Option<Named>) -> Result<Option<Named>, Said>
+    requires { i < 65536 }
 {
-    let kind = kind_at(rt, i);
-    match kind {
-        Kind::Unknown => {
-            say_unknown(rt, i);
-            File { ok: false, place }
-        }
-        Kind::TooLong => {
-            say_too_long(i);
-            File { ok: false, place }
-        }
-        Kind::Valued => {
-            if i + 1 < n {
-                return File { ok: true, place };
-            }
-            say_missing(rt, i);
-            File { ok: false, place }
-        }
-        Kind::File => file_at(rt, i, place),
-        _ => File { ok: true, place },
+    match kind_at(rt, i) {
+        Ok(Kind::File) => return file_at(rt, i, file),
+        Ok(Kind::Valued) if n <= i + 1 => say_missing(rt, i),
+        Ok(_) => return Ok(file),
+        Err(Refusal::Unknown) => say_unknown(rt, i),
+        Err(Refusal::TooLong) => say_too_long(i),
     }
+    Err(Said)
 }
 
 // The arguments from one on, which are no options.
-fn plain_files(rt: &impl Env, from: usize, n: usize, before: File) -> File
-    requires { (from ≤ 65536) × (n ≤ 65536) × (before.place ≤ 65536) }
-    ensures { result.place ≤ 65536 }
+fn plain_files(
+    rt: &impl Env,
+    from: usize,
+    n: usize,
+    before: Option<Named>,
+) -> Result<Option<Named>, Said>
+    requires { n ≤ 65536 }
 {
-    let mut f = before;
-    let mut i = from;
-    while i < n {
-        f = file_at(rt, i, f.place);
-        if !f.ok {
-            return f;
-        }
-        i += 1;
+    let mut file = before;
+    for i in from..n {
+        file = file_at(rt, i, file)?;
     }
-    f
+    Ok(file)
 }
 
-// All arguments looked at.
-pub fn files(rt: &impl Env) -> File
-    ensures { result.place ≤ 65536 }
-{
+// Which argument is the file, if one is.
+fn only_file(rt: &impl Env) -> Result<Option<Named>, Said> {
     let n = arguments(rt);
-    let mut place = 0;
+    let mut file = None;
     let mut i: usize = 1;
     while i < n {
-        let f = looked_at(rt, i, n, place);
-        if !f.ok {
-            return f;
-        }
-        place = f.place;
+        file = looked_at(rt, i, n, file)?;
         if is_end(rt, i) {
-            return plain_files(rt, i + 1, n, f);
+            return plain_files(rt, i + 1, n, file);
         }
+        // An option's value is passed over with it.
         i = after(rt, i);
     }
-    File { ok: true, place }
+    Ok(file)
+}
+
+// Which argument is the file, if one is; all arguments are known and complete.
+pub fn files(rt: &impl Env) -> Result<Option<usize>, Said>
+    ensures { IfOk result (λ file. IfSome file (λ place. place ≤ 65536)) }
+{
+    Ok(only_file(rt)?.map(|file| file.place))
 }
 
 // ---- their values
@@ -371,17 +311,12 @@ pub fn is_given(rt: &impl Env, name: &[u8]) -> bool {
 fn moved_down(buffer: &mut [u8], from: usize, to: usize) -> usize
     ensures { IsPrefixLen result buffer.new }
 {
-    let mut i: usize = 0;
-    let mut j = from;
-    while j < to {
-        if buffer.len() <= j {
-            return i;
-        }
-        buffer[i] = buffer[j];
-        i += 1;
-        j += 1;
+    let end = to.min(buffer.len());
+    if end <= from {
+        return 0;
     }
-    i
+    buffer.copy_within(from..end, 0);
+    end - from
 }
 
 // An option's value, put at the start of a buffer; how many bytes it has.
@@ -390,13 +325,6 @@ pub fn value_of(rt: &impl Env, place: Place, buffer: &mut [u8]) -> usize
 {
     let n = put_argument(rt, place.argument, buffer);
     moved_down(buffer, place.from, n)
-}
-
-// The number of an option, or what it is without the option; `ok`: it is one of those that are allowed, else it is said what is wrong.
-#[derive(Clone, Copy)]
-pub struct Count {
-    pub ok: bool,
-    pub value: usize,
 }
 
 fn say_bad(name: &[u8], value: &[u8], expected: &[u8]) {
@@ -409,37 +337,45 @@ fn say_bad(name: &[u8], value: &[u8], expected: &[u8]) {
     printing::say(b" was expected\n");
 }
 
-fn no_count() -> Count
-    ensures { result ≡ no_count }
+// What an option's value is read as, or what there is without the option; else it is said what was expected.
+fn read_option<T: Copy, F: Fn(&[u8]) -> Option<T>>(
+    rt: &impl Env,
+    name: &[u8],
+    without: T,
+    read: F,
+    expected: &[u8],
+) -> Option<T>
+    requires { F.IsAlwaysCallable read }
+    ensures { (result ≡ Some without) ⊎ ((text : _) × FnReturnsAt F.Fn read text result) }
 {
-    Count {
-        ok: false,
-        value: 0,
+    let place = place_of(rt, name);
+    if place.argument == 0 {
+        return Some(without);
     }
+    let mut value = io::buffer();
+    let n = value_of(rt, place, &mut value);
+    let answer = read(&value[..n]);
+    if answer.is_none() {
+        say_bad(name, &value[..n], expected);
+    }
+    answer
 }
 
 // A whole number from `least` to `most`, and nothing else.
-fn count_of(value: &[u8], least: usize, most: usize) -> Count
+#[tactic(auto, unfolding(crate::specs::Arguments::count_from, crate::specs::Arguments::count_in))]
+fn count_of(value: &[u8], least: usize, most: usize) -> Option<usize>
     ensures value { result ≡ count_of least most value.now }
-    ensures value_le_most { result.value ≤ most }
+    ensures value_le_most { IfSome result (λ v. v ≤ most) }
 {
     let w = decimal::whole(value, 0);
-    let v = w.value as usize;
-    if w.status != 0 {
-        return no_count();
+    let v = w.value.ok()? as usize;
+    if w.end != value.len() || v < least || most < v {
+        return None;
     }
-    if w.end != value.len() {
-        return no_count();
-    }
-    if v < least {
-        return no_count();
-    }
-    if most < v {
-        return no_count();
-    }
-    Count { ok: true, value: v }
+    Some(v)
 }
 
+// The number of an option, or what it is without the option, if it is one of those that are allowed; else it is said what was expected.
 pub fn count_option(
     rt: &impl Env,
     name: &[u8],
@@ -447,103 +383,51 @@ pub fn count_option(
     most: usize,
     without: usize,
     expected: &[u8],
-) -> Count
+) -> Option<usize>
     requires { without ≤ most }
-    ensures { result.value ≤ most }
+    ensures { IfSome result (λ v. v ≤ most) }
 {
-    let place = place_of(rt, name);
-    if place.argument == 0 {
-        return Count {
-            ok: true,
-            value: without,
-        };
-    }
-    let mut value = io::buffer();
-    let n = value_of(rt, place, &mut value);
-    let c = count_of(&value[..n], least, most);
-    if !c.ok {
-        say_bad(name, &value[..n], expected);
-    }
-    c
-}
-
-// The same for a decimal number of 0 or more.
-#[derive(Clone, Copy)]
-pub struct Bound {
-    pub ok: bool,
-    pub value: f64,
-}
-
-fn no_bound() -> Bound
-    ensures { result ≡ no_bound }
-{
-    Bound {
-        ok: false,
-        value: 0.0,
-    }
+    read_option(
+        rt,
+        name,
+        without,
+        |value| count_of(value, least, most),
+        expected,
+    )
 }
 
 // A decimal number of 0 or more, and nothing else.
-fn bound_of(value: &[u8]) -> Bound
+#[tactic(auto, unfolding(crate::specs::Arguments::bound_from, crate::specs::Arguments::bound_in))]
+fn bound_of(value: &[u8]) -> Option<f64>
     ensures { result ≡ bound_of value.now }
 {
     let d = decimal::decimal(value, 0);
-    if d.status != 0 {
-        return no_bound();
+    match d.value {
+        Ok(x) if d.end == value.len() && 0.0 <= x => Some(x),
+        _ => None,
     }
-    if d.end != value.len() {
-        return no_bound();
-    }
-    if 0.0 <= d.value {
-        return Bound {
-            ok: true,
-            value: d.value,
-        };
-    }
-    no_bound()
 }
 
-fn say_no_bound(name: &[u8], value: &[u8]) {
-    say_bad(
-        name,
-        value,
-        b"a decimal number of 0 or more, of at most 19 digits,",
-    );
-}
+const BOUND: &[u8] = b"a decimal number of 0 or more, of at most 19 digits,";
 
-pub fn bound_option(rt: &impl Env, name: &[u8], without: f64) -> Bound {
-    let place = place_of(rt, name);
-    if place.argument == 0 {
-        return Bound {
-            ok: true,
-            value: without,
-        };
-    }
-    let mut value = io::buffer();
-    let n = value_of(rt, place, &mut value);
-    let b = bound_of(&value[..n]);
-    if !b.ok {
-        say_no_bound(name, &value[..n]);
-    }
-    b
+// The same for a decimal number of 0 or more.
+pub fn bound_option(rt: &impl Env, name: &[u8], without: f64) -> Option<f64> {
+    read_option(rt, name, without, bound_of, BOUND)
 }
 
 // ---- cutoffs that are tried
 
-// How many there are, 0 without the option; their values, and from where to where each one stands in the option's value. `ok`: they can be
-// tried, else it is said why not.
+// How many there are, 0 without the option; their values, and from where to where each one stands in the option's value.
 #[derive(Clone, Copy)]
 pub struct Cutoffs {
-    pub ok: bool,
     pub count: usize,
     pub values: [f64; 8],
     pub from: [usize; 8],
     pub to: [usize; 8],
 }
 
-fn no_cutoffs(ok: bool) -> Cutoffs {
+fn no_cutoffs() -> Cutoffs {
     Cutoffs {
-        ok,
         count: 0,
         values: [0.0f64; 8],
         from: [0; 8],
@@ -551,32 +435,22 @@ fn no_cutoffs(ok: bool) -> Cutoffs {
     }
 }
 
-// The decimal numbers of a list, with commas between them.
-fn cutoffs_of(list: &[u8]) -> Cutoffs {
-    let mut values = [0.0f64; 8];
-    let mut from: [usize; 8] = [0; 8];
-    let mut to: [usize; 8] = [0; 8];
-    let mut count: usize = 0;
-    let mut at: usize = 0;
-    while count < 8 {
+// The decimal numbers of a list, with commas between them; else it is said what was expected.
+fn cutoffs_of(list: &[u8]) -> Option<Cutoffs> {
+    let mut c = no_cutoffs();
+    let mut at = 0;
+    for i in 0..8 {
         let end = scan::find(list, at, list.len(), b',');
-        let b = bound_of(&list[at..end]);
-        if !b.ok {
-            say_no_bound(b"--try-cutoffs", &list[at..end]);
-            return no_cutoffs(false);
-        }
-        values[count] = b.value;
-        from[count] = at;
-        to[count] = end;
-        count += 1;
+        let Some(value) = bound_of(&list[at..end]) else {
+            say_bad(b"--try-cutoffs", &list[at..end], BOUND);
+            return None;
+        };
+        c.values[i] = value;
+        c.from[i] = at;
+        c.to[i] = end;
+        c.count = i + 1;
         if end == list.len() {
-            return Cutoffs {
-                ok: true,
-                count,
-                values,
-                from,
-                to,
-            };
+            return Some(c);
         }
         at = end + 1;
     }
@@ -585,7 +459,7 @@ fn cutoffs_of(list: &[u8]) -> Cutoffs {
         list,
         b"a list of 1 to 8 cutoffs, with commas between them,",
     );
-    no_cutoffs(false)
+    None
 }
 
 // Whether an option that says nothing about trials is left out; else it is said why it has to be.
@@ -620,73 +494,37 @@ fn are_left_out(rt: &impl Env) -> bool {
     cutoff && lost && output
 }
 
-pub fn cutoffs_option(rt: &impl Env) -> Cutoffs {
+// The cutoffs, if they can be tried; else it is said why not.
+pub fn cutoffs_option(rt: &impl Env) -> Option<Cutoffs> {
     let place = place_of(rt, b"--try-cutoffs");
     if place.argument == 0 {
-        return no_cutoffs(true);
+        return Some(no_cutoffs());
     }
     let mut list = io::buffer();
     let n = value_of(rt, place, &mut list);
     let c = cutoffs_of(&list[..n]);
-    if are_left_out(rt) {
-        return c;
-    }
-    no_cutoffs(false)
+    if are_left_out(rt) { c } else { None }
 }
 
 // ---- what is printed
 
-// What is printed; `ok`: it is known.
-#[derive(Clone, Copy)]
-pub struct Choice {
-    pub ok: bool,
-    pub output: Output,
-}
-
-fn choice_of(value: &[u8]) -> Choice {
-    if check::same(value, b"sheet") {
-        return Choice {
-            ok: true,
-            output: Output::Sheet,
-        };
-    }
-    if check::same(value, b"page") {
-        return Choice {
-            ok: true,
-            output: Output::Page,
-        };
-    }
-    if check::same(value, b"table") {
-        return Choice {
-            ok: true,
-            output: Output::Table,
-        };
-    }
-    if check::same(value, b"trace") {
-        return Choice {
-            ok: true,
-            output: Output::Trace,
-        };
-    }
-    Choice {
-        ok: false,
-        output: Output::Sheet,
+fn output_of(value: &[u8]) -> Option<Output> {
+    match value {
+        b"sheet" => Some(Output::Sheet),
+        b"page" => Some(Output::Page),
+        b"table" => Some(Output::Table),
+        b"trace" => Some(Output::Trace),
+        _ => None,
     }
 }
 
-pub fn output_option(rt: &impl Env) -> Choice {
-    let place = place_of(rt, b"--output");
-    if place.argument == 0 {
-        return Choice {
-            ok: true,
-            output: Output::Sheet,
-        };
-    }
-    let mut value = io::buffer();
-    let n = value_of(rt, place, &mut value);
-    let c = choice_of(&value[..n]);
-    if !c.ok {
-        say_bad(b"--output", &value[..n], b"sheet, page, table or trace");
-    }
-    c
+// What is printed, if it is known; else it is said what was expected.
+pub fn output_option(rt: &impl Env) -> Option<Output> {
+    read_option(
+        rt,
+        b"--output",
+        Output::Sheet,
+        output_of,
+        b"sheet, page, table or trace",
+    )
 }

@@ -21,9 +21,10 @@ fn hex_digit(d: u64) -> u8
     ensures { result ≡ hex_digit d }
 {
     if d < 10 {
-        return (48 + d) as u8;
+        (48 + d) as u8
+    } else {
+        (55 + d) as u8
     }
-    (55 + d) as u8
 }
 
 // As many hexadecimal digits of v as there are bytes, written from the last to the first.
@@ -31,11 +32,9 @@ fn put_hexadecimal(out: &mut [u8], v: u64)
     ensures { out.new ≡ hexadecimal (length out.old) v }
 {
     let mut rest = v;
-    let mut i = out.len();
-    while 0 < i {
-        i -= 1;
+    for i in (0..out.len()).rev() {
         out[i] = hex_digit(rest % 16);
-        rest = rest / 16;
+        rest /= 16;
     }
 }
 
@@ -51,10 +50,10 @@ fn put_line(out: &mut [u8], place: usize, e: &[u64], size: Size)
 {
     sheet::put_number(&mut out[0..5], place as u64);
     sheet::put_number(&mut out[5..16], share::share(e[0]));
-    out[16] = 32;
-    out[17] = 32;
+    out[16] = b' ';
+    out[17] = b' ';
     put_hexadecimal(&mut out[18..34], e[1]);
-    out[34] = 10;
+    out[34] = b'\n';
 }
 
 // The lines of a sound sum, place from 1.
@@ -63,13 +62,10 @@ fn put_page(out: &mut [u8], store: &[u64], size: Size, count: usize)
     ensures { out.new ≡ page_text (map strip (listed size count store.now)) }
 {
     let len = entries::entry_len(size);
-    let mut i = 0;
-    while i < count {
+    for i in 0..count {
         let e = words::stretch(store, len, i);
         let at = i * LINE_BYTES;
-        let end = at + LINE_BYTES;
-        put_line(&mut out[at..end], i + 1, e, size);
-        i += 1;
+        put_line(&mut out[at..at + LINE_BYTES], i + 1, e, size);
     }
 }
 
@@ -91,11 +87,10 @@ pub fn write_page_known(h: Header, store: &[u64], out: &mut [u8], known: bool) -
     if number != 0 {
         return answers::plain_answer(h, number);
     }
-    let count = h.count;
-    let length = count * LINE_BYTES;
+    let length = h.count * LINE_BYTES;
     if out.len() < length {
         return answers::plain_answer(h, 8);
     }
-    put_page(&mut out[0..length], store, h.size, count);
+    put_page(&mut out[0..length], store, h.size, h.count);
     answers::looked_answer(h, 0, length)
 }

@@ -14,11 +14,7 @@ fn exponent_bits(weight: u64) -> u64
 fn exponent(weight: u64) -> u64
     ensures { result ≡ Page.exponent weight }
 {
-    let bits = exponent_bits(weight);
-    if bits == 0 {
-        return 1;
-    }
-    bits
+    exponent_bits(weight).max(1)
 }
 
 // The 52 bits of a weight's significand, and the 1 in front of them, if there is one.
@@ -27,9 +23,10 @@ fn significand(weight: u64) -> u64
 {
     let bits = weight % 0x10_0000_0000_0000;
     if exponent_bits(weight) == 0 {
-        return bits;
+        bits
+    } else {
+        0x10_0000_0000_0000 + bits
     }
-    0x10_0000_0000_0000 + bits
 }
 
 // 1,000,000 × m without its last 32 bits. The whole product of a significand has up to 73 bits, so m is multiplied in two halves.
@@ -45,10 +42,7 @@ fn product(m: u64) -> u64
 fn cut(x: u64, places: u64) -> u64
     ensures { result ≡ x / 2 ^ places }
 {
-    if 63 < places {
-        return 0;
-    }
-    x >> places
+    if places < 64 { x >> places } else { 0 }
 }
 
 // The weight times 1,000,000, cut down to a whole number. Of the 1075 places to cut off the exponent gives back at most 1033, since a weight

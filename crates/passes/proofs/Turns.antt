@@ -10,7 +10,6 @@ use Rattle.circuit.specs.declared.lines.Item.{Item}
 use Rattle.passes.specs.Going.{goes}
 use Rattle.passes.specs.Turns.{Stands, nothing, opened, too_deep, closed, no_repeat, bad, Unread, done, too_long, failed, cut, Turn, no_line, Next, Passed, begun, then}
 use Rattle.passes.specs.declared.Outcome.{Outcome}
-use Rattle.passes.specs.declared.Outcome.TheVariants as Outcome
 use Rattle.passes.specs.contracts.Outcome.{the_type}
 
 -- ---- whether it goes on

@@ -2,12 +2,10 @@
 -- was read; that it is the circuit's is no matter of contracts.) Assumes nothing.
 use Rattle.std.specs.Prelude.{ℕ, List}
 use Rattle.input.specs.declared.Found.{Found}
-use Rattle.input.specs.declared.Found.TheVariants as Found
 use Rattle.circuit.specs.declared.lines.Fault.{Fault}
 use Rattle.circuit.specs.declared.lines.Item.{Item}
 use Rattle.circuit.specs.declared.lines.Item.TheVariants.{Nothing, Repeat, Close, Bad}
 use Rattle.passes.specs.declared.Outcome.{Outcome}
-use Rattle.passes.specs.declared.Outcome.TheVariants as Outcome
 
 -- how a pass stands after a line that is no instruction
 pub data Stands : Item → Outcome → Type 0 where

@@ -65,10 +65,7 @@ pub fn start() -> Pass
 
 // One more than n, as far as numbers go.
 pub fn next(n: u64) -> u64 {
-    if n < u64::MAX {
-        return n + 1;
-    }
-    n
+    n.saturating_add(1)
 }
 
 // The pass at its next line.
@@ -78,10 +75,7 @@ pub fn moved(pass: Pass, window: Window) -> Pass
     Pass {
         window,
         line: next(pass.line),
-        depth: pass.depth,
-        outcome: Outcome::Going,
-        from: 0,
-        to: 0,
+        ..resumed(pass)
     }
 }
 
@@ -89,14 +83,11 @@ pub fn moved(pass: Pass, window: Window) -> Pass
 pub fn ended(pass: Pass, outcome: Outcome, from: usize, to: usize) -> Pass
     ensures { result.outcome ≡ outcome }
 {
-    let window = pass.window;
     Pass {
-        window,
-        line: pass.line,
-        depth: pass.depth,
         outcome,
         from,
         to,
+        ..pass
     }
 }
 
@@ -104,20 +95,17 @@ pub fn ended(pass: Pass, outcome: Outcome, from: usize, to: usize) -> Pass
 pub fn at_depth(pass: Pass, depth: usize) -> Pass
     ensures { result.outcome ≡ Outcome.Going }
 {
-    let window = pass.window;
     Pass {
-        window,
-        line: pass.line,
         depth,
-        outcome: Outcome::Going,
-        from: 0,
-        to: 0,
+        ..resumed(pass)
     }
 }
 
 // .. goes on after a bad line.
-pub fn resumed(pass: Pass) -> Pass {
-    at_depth(pass, pass.depth)
+pub fn resumed(pass: Pass) -> Pass
+    ensures { result.outcome ≡ Outcome.Going }
+{
+    ended(pass, Outcome::Going, 0, 0)
 }
 
 // .. goes on at another offset, after this line.
@@ -127,54 +115,27 @@ pub fn jumped(pass: Pass, offset: u64, line: u64) -> Pass
     Pass {
         window: input::jumped(pass.window, offset),
         line,
-        depth: pass.depth,
-        outcome: Outcome::Going,
-        from: 0,
-        to: 0,
+        ..resumed(pass)
     }
 }
 
+#[tactic(auto, unfolding(crate::specs::Going::goes))]
 pub fn is_going(pass: Pass) -> bool
     ensures { result ≡ is_going pass }
 {
-    let outcome = pass.outcome;
-    match outcome {
-        Outcome::Going => true,
-        Outcome::Done => false,
-        Outcome::Bad(_) => false,
-        Outcome::Rates => false,
-        Outcome::TooLong => false,
-        Outcome::Failed => false,
-        Outcome::Cut => false,
-        Outcome::TooDeep => false,
-        Outcome::NoRepeat => false,
-        Outcome::Unclosed(_) => false,
-        Outcome::Refused(_, _, _) => false,
-        Outcome::TooMuchLost(_) => false,
-        Outcome::Unwritten => false,
-        Outcome::NoStep => false,
-        Outcome::TooManySteps => false,
-    }
+    matches!(pass.outcome, Outcome::Going)
 }
 
 // It can go on past the line where it stands: the lines after it can still be looked at.
 pub fn can_go_on(pass: Pass) -> bool {
-    let outcome = pass.outcome;
-    match outcome {
-        Outcome::Bad(_) => true,
-        Outcome::Rates => true,
-        Outcome::TooDeep => true,
-        Outcome::NoRepeat => true,
-        _ => false,
-    }
+    matches!(
+        pass.outcome,
+        Outcome::Bad(_) | Outcome::Rates | Outcome::TooDeep | Outcome::NoRepeat
+    )
 }
 
 pub fn is_done(pass: Pass) -> bool
     ensures { result ≡ true → pass.outcome ≡ Outcome.Done }
 {
-    let outcome = pass.outcome;
-    match outcome {
-        Outcome::Done => true,
-        _ => false,
-    }
+    matches!(pass.outcome, Outcome::Done)
 }

@@ -10,12 +10,12 @@
 #![tactic(auto)]
 
 ghost use Rattle.std.specs.Prelude.{◌≡◌, true, ℕ, ◌<◌, ◌≤◌, length, get_or};
-ghost use Rattle.model.specs.Channels.{one};
 ghost use Rattle.model.specs.Calls as Calls;
 ghost use Rattle.model.specs.Calls.{held, overlaid};
 ghost use Rattle.model.specs.Known.{Known, known_after, Stepped};
-ghost use Rattle.perform.specs.Encoding.{call_words, shown_words, kind_in, first_in, rates_in, room_in, shows_words, call_of};
+ghost use Rattle.perform.specs.Encoding.{call_words, shown_words, rates_in, room_in, shows_words, call_of};
 ghost use Rattle.perform.specs.Encoding as Encoding;
+ghost use Rattle.perform.specs.Said.{said, said_change, said_look, ShowsBy, ShowsWithin};
 ghost use Rattle.perform.specs.Records.{numbers, record_words, number_words, flag_word, Made, Looked};
 
 use model::{Answer, Channel, Gate, Header};
@@ -35,7 +35,38 @@ pub const NUMBER_WORDS: usize = 11;
 
 pub const RECORD_WORDS: usize = NUMBER_WORDS + SHOWN_WORDS;
 
+// ---- a call
+
+// A call that changes the sum.
+#[derive(Clone, Copy)]
+enum Change {
+    Noise(Channel, usize),
+    TwoQubits([f64; 15], usize, usize),
+    Depolarize2(f64, usize, usize),
+    Reset(usize),
+    Gate(Gate),
+    Truncate,
+    Normalise,
+}
+
+// A call that shows what it gives in its record.
+#[derive(Clone, Copy)]
+enum Look {
+    Table(usize),
+    Pick(f64),
+    View(usize),
+}
+
+#[derive(Clone, Copy)]
+enum Call {
+    Change(Change),
+    Look(Look),
+    Sheet,
+    Page,
+}
+
 // The words have a kind that is known.
+#[tactic(auto, unfolding(crate::specs::Encoding::known))]
 pub fn known(call: &[u64]) -> bool
     requires { length call.now ≡ call_words }
     ensures { result ≡ Encoding.known call.now }
@@ -43,22 +74,22 @@ pub fn known(call: &[u64]) -> bool
     call[0] < 16
 }
 
+// It shows words in its record: a table or a view.
+#[tactic(auto, unfolding(crate::specs::Encoding::shows_words))]
+fn shows(call: &[u64]) -> bool
+    requires { length call.now ≡ call_words }
+    ensures { result ≡ shows_words call.now }
+{
+    matches!(call[0], 11 | 14)
+}
+
 // .. and a record with room for `shown` words behind its numbers can show what it may show.
+#[tactic(auto, unfolding(crate::specs::Encoding::fitting))]
 pub fn fitting(call: &[u64], shown: usize) -> bool
     requires { length call.now ≡ call_words }
     ensures { result ≡ Encoding.fitting shown call.now }
 {
-    if !known(call) {
-        return false;
-    }
-    let kind = call[0];
-    if kind == 11 {
-        return SHOWN_WORDS <= shown;
-    }
-    if kind == 14 {
-        return SHOWN_WORDS <= shown;
-    }
-    true
+    known(call) && (!shows(call) || SHOWN_WORDS <= shown)
 }
 
 // A whole number of a call.
@@ -83,101 +114,73 @@ fn rates(call: &[u64]) -> [f64; 15]
     ensures { result ≡ rates_in call.now }
 {
     let mut all = [0.0f64; 15];
-    let mut i: usize = 0;
-    while i < 15 {
+    for i in 0..15 {
         all[i] = rate(call, i);
-        i += 1;
     }
     all
 }
 
 // The room of a table.
+#[tactic(auto, unfolding(crate::specs::Encoding::room_in))]
 fn table_room(call: &[u64]) -> usize
     requires { length call.now ≡ call_words }
     ensures { result ≡ room_in call.now }
 {
     let asked = whole(call, 1);
     if SHOWN_WORDS < asked {
-        return SHOWN_WORDS;
+        SHOWN_WORDS
+    } else {
+        asked
     }
-    asked
 }
 
-// The channel on one qubit that the words say: kinds 0, 1 and 2.
-fn channel_in(call: &[u64]) -> Channel
-    requires { (length call.now ≡ call_words) × (kind_in call.now < 3) }
-    ensures { (bytes : ℕ) → Calls.noise (one result (first_in call.now)) ≡ call_of bytes call.now }
+// The call that the words say.
+#[tactic(auto, using(crate::proofs::Encoded::room_small), unfolding(crate::specs::Encoding::call_by, crate::specs::Encoding::known, crate::specs::Encoding::shows_words))]
+fn call_in(call: &[u64]) -> Call
+    requires { (length call.now ≡ call_words) × (Encoding.known call.now ≡ true) }
+    ensures said { (bytes : ℕ) → said bytes result ≡ call_of bytes call.now }
+    ensures shows { ShowsBy result call.now }
 {
-    let kind = call[0];
-    let x = rate(call, 0);
-    if kind == 0 {
-        let y = rate(call, 1);
-        let z = rate(call, 2);
-        return Channel::Pauli(x, y, z);
-    }
-    if kind == 1 {
-        return Channel::Loss(x);
-    }
-    Channel::Depolarizing(x)
-}
-
-// The gate that the words say: kinds 6, 7 and 8.
-fn gate_in(call: &[u64]) -> Gate
-    requires { (length call.now ≡ call_words) × (6 ≤ kind_in call.now) × (kind_in call.now < 9) }
-    ensures { (bytes : ℕ) → Calls.gate result ≡ call_of bytes call.now }
-{
-    let kind = call[0];
     let p = whole(call, 1);
-    if kind == 6 {
-        return Gate::H(p);
-    }
-    if kind == 7 {
-        return Gate::S(p);
-    }
     let q = whole(call, 2);
-    Gate::Cnot(p, q)
+    let x = rate(call, 0);
+    match call[0] {
+        0 => Call::Change(Change::Noise(Channel::Pauli(x, rate(call, 1), rate(call, 2)), p)),
+        1 => Call::Change(Change::Noise(Channel::Loss(x), p)),
+        2 => Call::Change(Change::Noise(Channel::Depolarizing(x), p)),
+        3 => Call::Change(Change::TwoQubits(rates(call), p, q)),
+        4 => Call::Change(Change::Depolarize2(x, p, q)),
+        5 => Call::Change(Change::Reset(p)),
+        6 => Call::Change(Change::Gate(Gate::H(p))),
+        7 => Call::Change(Change::Gate(Gate::S(p))),
+        8 => Call::Change(Change::Gate(Gate::Cnot(p, q))),
+        9 => Call::Change(Change::Truncate),
+        10 => Call::Change(Change::Normalise),
+        11 => Call::Look(Look::Table(table_room(call))),
+        12 => Call::Look(Look::Pick(x)),
+        13 => Call::Sheet,
+        14 => Call::Look(Look::View(p)),
+        _ => Call::Page,
+    }
 }
 
 // ---- the calls that change the sum
 
-// A channel: kinds 0 to 4.
-fn make_noise(h: Header, store: &mut [u64], call: &[u64], known: bool) -> Answer
-    requires { (length call.now ≡ call_words) × (kind_in call.now < 5) × Known known (held h store.old) }
-    ensures { (bytes : ℕ) → Stepped (call_of bytes call.now) known (held h store.old) result store.new }
+fn make(h: Header, store: &mut [u64], change: Change, known: bool) -> Answer
+    requires { Known known (held h store.old) }
+    ensures { Stepped (said_change change) known (held h store.old) result store.new }
 {
-    let kind = call[0];
-    let p = whole(call, 1);
-    if kind < 3 {
-        let c = channel_in(call);
-        return noise::channel_known(h, store, c, p, known);
+    match change {
+        Change::Noise(channel, q) => noise::channel_known(h, store, channel, q, known),
+        Change::TwoQubits(rates, p, q) => {
+            noise::two_qubit_pauli_error_known(h, store, rates, p, q, known)
+        }
+        Change::Depolarize2(x, p, q) => noise::depolarize2_known(h, store, x, p, q, known),
+        Change::Reset(q) => reset::reset_loss_channel_known(h, store, q, known),
+        Change::Gate(gate) => gates::gate_known(h, store, gate, known),
+        Change::Truncate => weights::truncate_known(h, store, known),
+        Change::Normalise => weights::normalise_known(h, store, known),
     }
-    let q = whole(call, 2);
-    if kind == 3 {
-        let all = rates(call);
-        return noise::two_qubit_pauli_error_known(h, store, all, p, q, known);
-    }
-    let x = rate(call, 0);
-    noise::depolarize2_known(h, store, x, p, q, known)
-}
-
-// A call that names no rate: a reset, a gate, truncate or normalise, kinds 5 to 10.
-fn make_plain(h: Header, store: &mut [u64], call: &[u64], known: bool) -> Answer
-    requires { (length call.now ≡ call_words) × (5 ≤ kind_in call.now) × (kind_in call.now < 11) × Known known (held h store.old) }
-    ensures { (bytes : ℕ) → Stepped (call_of bytes call.now) known (held h store.old) result store.new }
-{
-    let kind = call[0];
-    if kind == 5 {
-        let q = whole(call, 1);
-        return reset::reset_loss_channel_known(h, store, q, known);
-    }
-    if kind < 9 {
-        let g = gate_in(call);
-        return gates::gate_known(h, store, g, known);
-    }
-    if kind == 9 {
-        return weights::truncate_known(h, store, known);
-    }
-    weights::normalise_known(h, store, known)
 }
 
 // ---- the record
@@ -186,7 +189,7 @@ fn make_plain(h: Header, store: &mut [u64], call: &[u64], known: bool) -> Answer
 fn flag_word(dirty: bool) -> u64
     ensures { result ≡ flag_word dirty }
 {
-    if dirty { 1 } else { 0 }
+    dirty as u64
 }
 
 // An answer's numbers at the start of a record.
@@ -210,7 +213,7 @@ fn put_numbers(out: &mut [u64], a: Answer)
         header.count as u64,
         flag_word(header.dirty),
     ];
-    words::copy_words(&mut out[0..NUMBER_WORDS], &all);
+    out[..NUMBER_WORDS].copy_from_slice(&all);
 }
 
 // ---- the calls that change nothing
@@ -244,28 +247,22 @@ fn show_view(h: Header, store: &[u64], place: usize, out: &mut [u64], known: boo
     let a = view::view_answer_known(h, store, place, known);
     let shown = view::view_words_known(h, store, place, known);
     let end = NUMBER_WORDS + shown.len();
-    words::copy_words(&mut out[NUMBER_WORDS..end], shown);
+    out[NUMBER_WORDS..end].copy_from_slice(shown);
     put_numbers(out, a);
     a
 }
 
-// A table, a pick or a view: kinds 11, 12 and 14.
-fn look(h: Header, store: &[u64], call: &[u64], out: &mut [u64], known: bool) -> Answer
-    requires call_len { (length call.now ≡ call_words) × (11 ≤ kind_in call.now) × (kind_in call.now < 15) × (kind_in call.now ≡ 13 → ⊥) }
-    requires number_words_in_bounds { (number_words ≤ length out.old) × (shows_words call.now ≡ true → record_words ≤ length out.old) × Known known (held h store.now) }
-    ensures { (bytes : ℕ) → Looked (call_of bytes call.now) (held h store.now) result out.old out.new }
+// There is room for what it may show.
+fn show(h: Header, store: &[u64], look: Look, out: &mut [u64], known: bool) -> Answer
+    requires room { ShowsWithin look (length out.old) }
+    requires known { Known known (held h store.now) }
+    ensures { Looked (said_look look) (held h store.now) result out.old out.new }
 {
-    let kind = call[0];
-    if kind == 11 {
-        let room = table_room(call);
-        return show_table(h, store, room, out, known);
+    match look {
+        Look::Table(room) => show_table(h, store, room, out, known),
+        Look::Pick(draw) => show_pick(h, store, draw, out, known),
+        Look::View(place) => show_view(h, store, place, out, known),
     }
-    if kind == 12 {
-        let draw = rate(call, 0);
-        return show_pick(h, store, draw, out, known);
-    }
-    let place = whole(call, 1);
-    show_view(h, store, place, out, known)
 }
 
 // ---- one call
@@ -285,26 +282,22 @@ pub fn perform(
     ensures made { Made (call_of (length text.old) call.now) (held h store.old) result store.new out.old out.new text.old text.new }
     ensures known { Known (known_after known result.number) (held result.header store.new) }
 {
-    let kind = call[0];
-    if kind < 5 {
-        let a = make_noise(h, store, call, known);
-        put_numbers(out, a);
-        return a;
+    match call_in(call) {
+        Call::Change(change) => {
+            let a = make(h, store, change, known);
+            put_numbers(out, a);
+            a
+        }
+        Call::Look(look) => show(h, store, look, out, known),
+        Call::Sheet => {
+            let a = sheet::write_sheet_known(h, store, text, known);
+            put_numbers(out, a);
+            a
+        }
+        Call::Page => {
+            let a = page::write_page_known(h, store, text, known);
+            put_numbers(out, a);
+            a
+        }
     }
-    if kind < 11 {
-        let a = make_plain(h, store, call, known);
-        put_numbers(out, a);
-        return a;
-    }
-    if kind == 13 {
-        let a = sheet::write_sheet_known(h, store, text, known);
-        put_numbers(out, a);
-        return a;
-    }
-    if kind == 15 {
-        let a = page::write_page_known(h, store, text, known);
-        put_numbers(out, a);
-        return a;
-    }
-    look(h, store, call, out, known)
 }

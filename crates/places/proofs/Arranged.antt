@@ -13,9 +13,9 @@ use Rattle.model.proofs.Lists.{get_or-mapped}
 use Rattle.model.proofs.Entries.{length-listed, listed_at}
 use Rattle.model.specs.Sound.{Packed}
 use Rattle.entries.specs.Exchanged.{exchanged}
-use Rattle.places.specs.Places.{picked, Distinct}
-use Rattle.places.specs.Settled.{Inverse, Settled}
-use Rattle.places.proofs.Inverse.{stays, later, exchange-settles, exchange-keeps, copy-settles, copy-keeps}
+use Rattle.places.specs.Places.{picked}
+use Rattle.places.specs.Settled.{Settled}
+use Rattle.places.proofs.Inverse.{later, exchange-settles, exchange-keeps, copy-settles, copy-keeps}
 
 alike : {X : Type 0} (f g : ℕ → X) (m : ℕ) (a b : List ℕ) → m ≤ length a → m ≤ length b → ((u : ℕ) → u < m → f (get_or a u 0) ≡ g (get_or b u 0)) → map f (take m a) ≡ map g (take m b)
 alike f g zero a b h i e = refl
@@ -27,13 +27,6 @@ alike {X} f g (suc m) (x ∷ a) (y ∷ b) h i e =
 -- the number of entries is at most 256
 pub at_most : {s : Size} {count : ℕ} {w : List ℕ} → Packed s count w → count ≤ 256
 at_most p = omega (arith, p.room, p.sized.capacity.high)
-
--- a list whose places are below `count` has them below 256
-pub distinct-below : {count m : ℕ} {order : List ℕ} → count ≤ 256 → Distinct count m order → Distinct 256 m order
-distinct-below h d = record { below = λ u g. omega (arith, d.below u g, h); once = d.once }
-
-pub none-settled : {count m : ℕ} {order holds : List ℕ} → Distinct count m order → Inverse m order holds → Settled count m 0 order holds
-none-settled d i = record { inverse = i; below = d.below; settled = λ u h. absurd (not-suc-le-zero h) }
 
 -- each place of the order still has its entry
 same-picked : (s : Size) {count m v v' : ℕ} {order holds order' holds' : List ℕ} (w w' : List ℕ) → count ≤ 256 → m ≤ count → Settled count m v order holds → Settled count m v' order' holds'
@@ -50,9 +43,6 @@ module _ {s : Size} {count m v : ℕ} {order holds w : List ℕ} (p : Packed s c
 
   abbrev held : ℕ
   held = get_or holds v 0
-
-  pub nothing-moves : here ≡ v → Settled count m (v + 1) order holds
-  nothing-moves = stays (at_most p) fits h t
 
   module _ (ne : here ≡ v → ⊥) where
     pub from-later : v < here

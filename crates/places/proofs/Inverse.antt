@@ -49,21 +49,6 @@ module _ {m n : ℕ} {order holds : List ℕ} (d : Distinct 256 n order) (h : m 
   elsewhere : (p : ℕ) → (p ≡ place → ⊥) → get_or (set holds place m) p 0 ≡ get_or holds p 0
   elsewhere p ne = get_or-set_other holds place p m 0 ne
 
-  pub one-held : Inverse (m + 1) order (set holds place m)
-  one-held =
-      record {
-        order_long = i.order_long;
-        holds_long = length-set holds place m ∙ i.holds_long;
-        there = λ u g.
-            either u m
-            (λ e. ap (λ (k : ℕ). get_or (set holds place m) (get_or order k 0) 0) e ∙ here ∙ sym e)
-            (λ ne. elsewhere (get_or order u 0) (λ e. ne (d.once u m (omega arith) h e)) ∙ i.there u (omega arith));
-        back = λ p g f.
-            either p place
-            (λ e. let z : get_or (set holds place m) p 0 ≡ m = ap (λ (k : ℕ). get_or (set holds place m) k 0) e ∙ here in (omega arith, ap (λ (k : ℕ). get_or order k 0) z ∙ sym e))
-            (λ ne. let z = elsewhere p ne in let b = i.back p g (rw z at f) in (omega (arith, z, b.0), ap (λ (k : ℕ). get_or order k 0) z ∙ b.1));
-      }
-
 -- ---- one more place settled
 
 module _ {count m v : ℕ} {order holds : List ℕ} (few : count ≤ 256) (fits : m ≤ count) (h : v < m) (t : Settled count m v order holds) where

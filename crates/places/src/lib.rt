@@ -17,10 +17,8 @@ pub fn own_places(count: usize) -> [usize; 256]
     ensures { (length result ≡ 256) × ((i : ℕ) → i < count → get_or result i 0 ≡ i) }
 {
     let mut places = [0usize; 256];
-    let mut i = 0;
-    while i < count {
+    for i in 0..count {
         places[i] = i;
-        i += 1;
     }
     places
 }
@@ -41,9 +39,7 @@ pub fn leave(
     let len = entries::entry_len(size);
     let mut stay = count;
     let mut out = 0;
-    let mut i = count;
-    while 0 < i {
-        i -= 1;
+    for i in (0..count).rev() {
         if (store[i * len + 1] >> q) % 2 == 1 {
             left[out] = i;
             out += 1;
@@ -57,16 +53,14 @@ pub fn leave(
 // ---- the store is put into their order
 
 // Which of the first `many` of the order stands at each place: 256 where none does.
+// (A number and no Option: one test against `many` tells those that are still to come from those that went and from none.)
 fn fill_holds(order: &[usize; 256], many: usize) -> [usize; 256]
     requires { (many ≤ 256) × (length order.now ≡ 256) × Distinct 256 many order.now }
     ensures { Inverse many order.now result }
 {
     let mut holds = [256usize; 256];
-    let mut u = 0;
-    while u < many {
-        let p = order[u];
-        holds[p] = u;
-        u += 1;
+    for u in 0..many {
+        holds[order[u]] = u;
     }
     holds
 }
@@ -107,10 +101,8 @@ pub fn arrange(store: &mut [u64], size: Size, count: usize, order: &mut [usize; 
     ensures { Packed size many store.new × (listed size many store.new ≡ picked size many order.old store.old) }
 {
     let mut holds = fill_holds(order, many);
-    let mut v = 0;
-    while v < many {
+    for v in 0..many {
         settle(store, size, count, order, &mut holds, many, v);
-        v += 1;
     }
     entries::clear_from(store, size, many, count);
 }

@@ -8,17 +8,15 @@ fn reason_end(text: &[u8]) -> usize
     ensures { result ≤ length text.now }
 {
     let bracket = scan::find(text, 0, text.len(), b'(');
-    if 0 < bracket {
-        if bracket < text.len() {
-            return bracket - 1;
-        }
+    if 0 < bracket && bracket < text.len() {
+        return bracket - 1;
     }
     bracket
 }
 
 fn say_reason(text: &[u8]) {
     let end = reason_end(text);
-    crate::say(&text[0..end]);
+    crate::say(&text[..end]);
 }
 
 // The text of an error, put at the start of a buffer; how many bytes it has there.
@@ -28,21 +26,13 @@ fn put_text(text: &mut [u8], e: Error) -> u64 {
     at.position()
 }
 
-fn say_up_to(text: &[u8], end: u64) {
-    if end <= text.len() as u64 {
-        say_reason(&text[0..end as usize]);
-        return;
-    }
-    say_reason(text);
-}
-
 // What failed, and why.
 pub fn say_why(what: &[u8], e: Error) {
     let mut text = [0u8; 128];
-    let end = put_text(&mut text, e);
+    let end = put_text(&mut text, e).min(128) as usize;
     crate::say(what);
     crate::say(b": ");
-    say_up_to(&text, end);
+    say_reason(&text[..end]);
     crate::say(b"\n");
 }
 

@@ -4,89 +4,64 @@ ghost use Rattle.std.specs.Prelude.{◌≤◌};
 
 use crate::{after, put, put_byte};
 
-// A number from 1 to below 10, and the power of ten that it stands beside: 10^power, or 10^-power if `below`.
+// A number from 1 to below 10, and the power of ten that it stands beside.
 #[derive(Clone, Copy)]
-struct Power {
+struct Scientific {
     digits: f64,
-    power: u64,
-    below: bool,
+    exponent: i32,
 }
 
 // 10 or more, divided until it is below 10.
-fn scaled_down(x: f64) -> Power {
+fn scaled_down(x: f64) -> Scientific {
     let mut digits = x;
-    let mut power: u64 = 0;
-    while power < 400 {
+    for exponent in 0..400 {
         if digits < 10.0 {
-            return Power {
-                digits,
-                power,
-                below: false,
-            };
+            return Scientific { digits, exponent };
         }
-        digits = digits / 10.0;
-        power += 1;
+        digits /= 10.0;
     }
-    Power {
+    Scientific {
         digits,
-        power,
-        below: false,
+        exponent: 400,
     }
 }
 
 // Below 1, multiplied until it is 1 or more.
-fn scaled_up(x: f64) -> Power {
+fn scaled_up(x: f64) -> Scientific {
     let mut digits = x;
-    let mut power: u64 = 0;
-    while power < 400 {
+    for turn in 0..400u16 {
         if 1.0 <= digits {
-            return Power {
+            return Scientific {
                 digits,
-                power,
-                below: true,
+                exponent: -i32::from(turn),
             };
         }
-        digits = digits * 10.0;
-        power += 1;
+        digits *= 10.0;
     }
-    Power {
+    Scientific {
         digits,
-        power,
-        below: true,
+        exponent: -400,
     }
 }
 
-fn scaled(x: f64) -> Power {
+fn scaled(x: f64) -> Scientific {
     if 1.0 <= x {
-        return scaled_down(x);
+        scaled_down(x)
+    } else {
+        scaled_up(x)
     }
-    scaled_up(x)
 }
 
 // Half of the ninth digit is added, so that cutting rounds.
-fn rounded(s: Power) -> Power {
+fn rounded(s: Scientific) -> Scientific {
     let digits = s.digits + 0.000000005;
     if digits < 10.0 {
-        return Power {
-            digits,
-            power: s.power,
-            below: s.below,
-        };
+        return Scientific { digits, ..s };
     }
-    if s.below {
-        if 0 < s.power {
-            return Power {
-                digits: 1.0,
-                power: s.power - 1,
-                below: 1 < s.power,
-            };
-        }
-    }
-    if s.power < 400 {
-        return Power {
+    if s.exponent < 400 {
+        return Scientific {
             digits: 1.0,
-            power: s.power + 1,
-            below: false,
+            exponent: s.exponent + 1,
         };
     }
     s
@@ -97,44 +72,38 @@ fn first_digit(x: f64) -> u8
     ensures { result ≤ 9 }
 {
     let mut rest = x;
-    let mut digit: u8 = 0;
-    while digit < 9 {
+    for digit in 0..9 {
         if rest < 1.0 {
             return digit;
         }
-        rest = rest - 1.0;
-        digit += 1;
+        rest -= 1.0;
     }
-    digit
+    9
 }
 
 fn put_digits(row: &mut [u8; 256], from: usize, x: f64) -> usize {
     let mut rest = x;
     let mut at = from;
-    let mut i: usize = 0;
-    while i < 9 {
+    for i in 0..9 {
         if i == 1 {
             at = put_byte(row, at, b'.');
         }
         let digit = first_digit(rest);
         at = put_byte(row, at, b'0' + digit);
         rest = (rest - digit as f64) * 10.0;
-        i += 1;
     }
     at
 }
 
-fn put_power(row: &mut [u8; 256], from: usize, power: u64, below: bool) -> usize {
+fn put_exponent(row: &mut [u8; 256], from: usize, exponent: i32) -> usize {
+    let sign = if exponent < 0 { b'-' } else { b'+' };
+    let digits = exponent.unsigned_abs() as u64;
     let mut at = put_byte(row, from, b'e');
-    if below {
-        at = put_byte(row, at, b'-');
-    } else {
-        at = put_byte(row, at, b'+');
-    }
-    if power < 10 {
+    at = put_byte(row, at, sign);
+    if digits < 10 {
         at = put_byte(row, at, b'0');
     }
-    crate::put_digits(row, at, power)
+    crate::put_digits(row, at, digits)
 }
 
 // The number alone.
@@ -142,7 +111,7 @@ pub fn put_float_alone(row: &mut [u8; 256], from: usize, x: f64) -> usize {
     if 0.0 < x {
         let s = rounded(scaled(x));
         let at = put_digits(row, from, s.digits);
-        return put_power(row, at, s.power, s.below);
+        return put_exponent(row, at, s.exponent);
     }
     put(row, from, b"0.00000000e+00")
 }

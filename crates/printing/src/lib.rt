@@ -27,10 +27,8 @@ pub fn put_byte(row: &mut [u8; 256], at: usize, b: u8) -> usize {
 
 pub fn put(row: &mut [u8; 256], at: usize, text: &[u8]) -> usize {
     let mut end = at;
-    let mut i = 0;
-    while i < text.len() {
-        end = put_byte(row, end, text[i]);
-        i += 1;
+    for b in text {
+        end = put_byte(row, end, *b);
     }
     end
 }
@@ -41,12 +39,7 @@ pub fn put(row: &mut [u8; 256], at: usize, text: &[u8]) -> usize {
 fn plus(a: usize, b: usize) -> usize
     ensures { result ≤ 256 }
 {
-    if a < 256 {
-        if b < 256 - a {
-            return a + b;
-        }
-    }
-    256
+    a.saturating_add(b).min(256)
 }
 
 // The column after one that begins at `at`, is `width` wide at least, and is filled up to `end`.
@@ -66,11 +59,8 @@ pub fn put_left(row: &mut [u8; 256], at: usize, text: &[u8], width: usize) -> us
 
 // .. at its right.
 fn put_right(row: &mut [u8; 256], at: usize, text: &[u8], width: usize) -> usize {
-    if text.len() < width {
-        let end = put(row, plus(at, width - text.len()), text);
-        return plus(end, 1);
-    }
-    let end = put(row, at, text);
+    let start = plus(at, width.saturating_sub(text.len()));
+    let end = put(row, start, text);
     plus(end, 1)
 }
 
@@ -82,14 +72,7 @@ pub fn put_part(
     end: usize,
     width: usize,
 ) -> usize {
-    put_start(row, at, part, end, width)
-}
-
-fn put_start(row: &mut [u8; 256], at: usize, part: &[u8], end: usize, width: usize) -> usize {
-    if end <= part.len() {
-        return put_right(row, at, &part[0..end], width);
-    }
-    put_right(row, at, part, width)
+    put_right(row, at, &part[..end.min(256)], width)
 }
 
 // ---- numbers
@@ -126,12 +109,5 @@ pub fn write(fd: i32, row: &mut [u8; 256], end: usize) -> bool {
 
 // .. up to a place, as it is.
 pub fn write_up_to(fd: i32, row: &[u8; 256], end: usize) -> bool {
-    write_bytes(fd, row, end)
-}
-
-fn write_bytes(fd: i32, row: &[u8], end: usize) -> bool {
-    if end <= row.len() {
-        return io::write_all(fd, &row[0..end]);
-    }
-    io::write_all(fd, row)
+    io::write_all(fd, &row[..end.min(256)])
 }

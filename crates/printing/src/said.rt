@@ -20,43 +20,21 @@ pub fn say_float(x: f64) {
 
 // A byte as it is shown: those that do not print are question marks.
 fn shown(b: u8) -> u8 {
-    if b < 32 {
-        return b'?';
+    match b {
+        b' '..=b'~' => b,
+        _ => b'?',
     }
-    if 126 < b {
-        return b'?';
-    }
-    b
 }
 
 // The bytes of a text from a place to another, as they are shown, cut after 60; how many they are.
 fn copy_shown(row: &mut [u8; 60], t: &[u8], from: usize, to: usize) -> usize
     ensures { result ≤ 60 }
 {
-    let mut n: usize = 0;
-    let mut i = from;
-    while i < to {
-        if t.len() <= i {
-            return n;
-        }
-        if 60 <= n {
-            return n;
-        }
-        row[n] = shown(t[i]);
-        n += 1;
-        i += 1;
+    let word = t.get(from..to.min(t.len())).unwrap_or(&[]);
+    for (cell, b) in row.iter_mut().zip(word) {
+        *cell = shown(*b);
     }
-    n
-}
-
-fn start_of(t: &[u8], n: usize) {
-    if n <= t.len() {
-        say(&t[0..n]);
-    }
-}
-
-fn start(row: &[u8; 60], n: usize) {
-    start_of(row, n);
+    word.len().min(60)
 }
 
 // .. in backquotes.
@@ -64,11 +42,9 @@ pub fn say_word(t: &[u8], from: usize, to: usize) {
     let mut row = [0u8; 60];
     let n = copy_shown(&mut row, t, from, to);
     say(b"`");
-    start(&row, n);
-    if from < to {
-        if n < to - from {
-            say(b"..");
-        }
+    say(&row[..n]);
+    if n < to.saturating_sub(from) {
+        say(b"..");
     }
     say(b"`");
 }

@@ -38,8 +38,7 @@ pub fn read_lines(out: &mut [u64], text: &[u8], m: usize)
     requires { Lined text.now × (m ≤ length (lines_on text.now)) × (length out.old ≡ 3 * m) }
     ensures { out.new ≡ joined (take m (lines_on text.now)) }
 {
-    let mut i = 0;
-    while i < m {
+    for i in 0..m {
         let at = 64 * i;
         let a = fields::number_at(text, at);
         let b = fields::number_at(text, at + 21);
@@ -48,13 +47,13 @@ pub fn read_lines(out: &mut [u64], text: &[u8], m: usize)
         out[to] = a;
         out[to + 1] = b;
         out[to + 2] = c;
-        i += 1;
     }
 }
 
 // ---- one entry
 
 // The bytes of the first entry's lines; 0 if not all of them are there.
+// No Option: where they are known to be there, callers add the bytes as they are.
 pub fn entry_bytes(text: &[u8], size: Size) -> usize
     requires { Lined text.now }
     ensures { result ≡ entry_bytes size (lines_on text.now) }
@@ -128,14 +127,12 @@ pub fn entries_fit(text: &[u8], size: Size, count: usize) -> bool
     ensures { result ≡ is_some (read_entries size count (lines_on text.now)) }
 {
     let mut at = 0;
-    let mut i = 0;
-    while i < count {
+    for _ in 0..count {
         let bytes = entry_bytes(text_from(text, at), size);
         if bytes == 0 {
             return false;
         }
-        at = at + bytes;
-        i += 1;
+        at += bytes;
     }
     at == text.len()
 }
@@ -146,14 +143,12 @@ pub fn entries_accepted(text: &[u8], size: Size, count: usize) -> bool
     ensures { result ≡ Numbers.entries_sound size (entries_on size count (lines_on text.now)) }
 {
     let mut at = 0;
-    let mut i = 0;
-    while i < count {
+    for _ in 0..count {
         let here = text_from(text, at);
         if !entry_accepted(here, size) {
             return false;
         }
-        at = at + entry_bytes(here, size);
-        i += 1;
+        at += entry_bytes(here, size);
     }
     true
 }
@@ -166,15 +161,11 @@ pub fn put_entries(slots: &mut [u64], text: &[u8], size: Size, count: usize)
 {
     let len = entries::entry_len(size);
     let mut at = 0;
-    let mut to = 0;
-    let mut i = 0;
-    while i < count {
+    for i in 0..count {
         let here = text_from(text, at);
-        let end = to + len;
-        read_entry(&mut slots[to..end], here, size);
-        at = at + entry_bytes(here, size);
-        to = end;
-        i += 1;
+        let to = i * len;
+        read_entry(&mut slots[to..to + len], here, size);
+        at += entry_bytes(here, size);
     }
 }
 
@@ -216,6 +207,7 @@ pub fn text_sound(text: &[u8]) -> bool
 }
 
 // The number that reading gives for a store of `words` words: 7, 1, 2, 5 or 0.
+// No Result: the numbers are those of the C interface.
 pub fn sheet_number(text: &[u8], words: usize) -> u64
     ensures { result ≡ sheet_number text.now words }
 {

@@ -2,12 +2,12 @@
 use mathlib.Core.Path.{◌≡◌, refl, sym, ap, ap₂, ◌∙◌}
 use mathlib.Core.List.{List, [], ◌∷◌, map}
 use mathlib.Core.Logic.{⊎_elim}
-use Prim.Native.Nat.{ℕ, suc, ◌+◌, ◌<◌, ◌≤◌}
+use Prim.Native.Nat.{ℕ, suc, ◌+◌, ◌*◌, ◌<◌, ◌≤◌}
 use native.Mathlib.Nat.{eq-or-lt_of_le, le_of_suc-le-suc}
 use native.Mathlib.Omega.{arith}
 use lib.ListN.{length, take, get_or, set, length-set, length-map}
 use lib.Seq.{get_or-set_same, get_or-set_other, get_or-take, length-take-le, ext_get_or}
-use Rattle.model.specs.Entries.{Keyed, phase_at, entry_of, listed, stretch, body_in}
+use Rattle.model.specs.Entries.{Keyed, phase_at, entry_of, entry_len, listed, stretch, body_in}
 use Rattle.model.specs.Keys.{bit, usual_salts, phase_loss_key, word_key_of, phase_loss_key_of, keyed}
 use Rattle.model.specs.declared.Salts.{Salts}
 use Rattle.model.specs.Calls.{rebuilt_entries}
@@ -49,6 +49,10 @@ worked-all {found} s count store g i e l w =
     ∙ sym (get_or-mapped g es j none 0 (omega (arith, length-listed s count store)) ∙ ap g (listed_at s count j store none b)))
 
 -- ---- keys
+
+-- an entry stands within the store
+pub inside : (s : Size) {len : ℕ} (i : ℕ) (w : List ℕ) → len ≡ entry_len s → i * entry_len s + entry_len s ≤ length w → i * len + len ≤ length w
+inside s i w e h = rw e h
 
 -- from an entry's rows and its loss word
 pub phase-loss-key-is : {r loss : ℕ} {rows : List ℕ} {salts : Salts} (s : Size) (w : List ℕ) (i : ℕ) → r ≡ phase_loss_key salts s.n (phase_at rows) (λ q. bit q loss)

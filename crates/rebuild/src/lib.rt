@@ -1,7 +1,7 @@
 // Keys rebuilt; weights and keys saved, and put back. What a function does, it does to the list of entries.
 #![tactic(auto)]
 
-ghost use Rattle.std.specs.Prelude.{◌≡◌, map, ℕ, ◌+◌, ◌*◌, ◌<◌, ◌≤◌, length, take};
+ghost use Rattle.std.specs.Prelude.{◌≡◌, [], ◌∷◌, map, ℕ, ◌+◌, ◌*◌, ◌<◌, ◌≤◌, length, take};
 ghost use Rattle.model.specs.Entries.{entry_len, listed};
 ghost use Rattle.model.specs.Keys.{usual_salts, word_key_of, phase_loss_key_of};
 ghost use Rattle.model.specs.Store.{keyed_weighed, weight_of};
@@ -12,12 +12,12 @@ ghost use Rattle.entries.specs.Became.{Became};
 ghost use Rattle.keys.specs.Tables.{PhaseMasks};
 ghost use Rattle.rebuild.specs.Saved.{word_at, with_word, word_key_at, phase_loss_key_at, each_by, with_weights, with_key_words};
 
-use keys::FourKeys;
 use model::Size;
 
 // ---- keys rebuilt
 
 // The word key of entry i, worked out from its rows.
+#[tactic(auto, unfolding(model::specs::Keys::word_key_of))]
 pub fn word_key_at(store: &[u64], size: Size, i: usize) -> u64
     requires { Within size × (i * entry_len size + entry_len size ≤ length store.now) }
     ensures { result ≡ word_key_at size store.now i }
@@ -26,15 +26,16 @@ pub fn word_key_at(store: &[u64], size: Size, i: usize) -> u64
 }
 
 // The word keys of entries i to i + 3.
-pub fn four_at(store: &[u64], size: Size, i: usize) -> FourKeys
+#[tactic(auto, unfolding(model::specs::Keys::word_key_of))]
+pub fn four_at(store: &[u64], size: Size, i: usize) -> [u64; 4]
     requires { Within size × ((i + 4) * entry_len size ≤ length store.now) }
-    ensures { (result.a ≡ word_key_at size store.now i) × (result.b ≡ word_key_at size store.now (i + 1)) × (result.c ≡ word_key_at size store.now (i + 2)) × (result.d ≡ word_key_at size store.now (i + 3)) }
+    ensures { result ≡ word_key_at size store.now i ∷ word_key_at size store.now (i + 1) ∷ word_key_at size store.now (i + 2) ∷ word_key_at size store.now (i + 3) ∷ [] }
 {
     let a = entries::rows_of(store, size, i);
     let b = entries::rows_of(store, size, i + 1);
     let c = entries::rows_of(store, size, i + 2);
     let d = entries::rows_of(store, size, i + 3);
-    keys::four_word_keys(a, b, c, d, size.n)
+    keys::four_word_keys([a, b, c, d], size.n)
 }
 
 // Every entry's word key: four at once, while four are left.
@@ -43,18 +44,18 @@ pub fn word_keys(store: &[u64], size: Size, count: usize) -> [u64; 256]
     ensures { (length result ≡ 256) × (take count result ≡ map (λ e. word_key_of size.n e.entry.body) (listed size count store.now)) }
 {
     let mut found = [0u64; 256];
-    let mut i: usize = 0;
+    let mut i = 0;
+    // A `while`: what is left after the fours begins where they end.
     while i + 4 <= count {
-        let four = four_at(store, size, i);
-        found[i] = four.a;
-        found[i + 1] = four.b;
-        found[i + 2] = four.c;
-        found[i + 3] = four.d;
+        let [a, b, c, d] = four_at(store, size, i);
+        found[i] = a;
+        found[i + 1] = b;
+        found[i + 2] = c;
+        found[i + 3] = d;
         i += 4;
     }
-    while i < count {
-        found[i] = word_key_at(store, size, i);
-        i += 1;
+    for j in i..count {
+        found[j] = word_key_at(store, size, j);
     }
     found
 }
@@ -77,10 +78,8 @@ pub fn phase_loss_keys(store: &[u64], size: Size, count: usize) -> [u64; 256]
 {
     let table = keys::phase_masks(keys::usual_salts(), 2 * size.n);
     let mut found = [0u64; 256];
-    let mut i: usize = 0;
-    while i < count {
+    for i in 0..count {
         found[i] = phase_loss_key_at(&table, store, size, i);
-        i += 1;
     }
     found
 }
@@ -103,14 +102,13 @@ pub fn save_word(saved: &mut [u64; 256], store: &[u64], size: Size, count: usize
     ensures { (length saved.new ≡ 256) × (take count saved.new ≡ map (word_at j) (listed size count store.now)) }
 {
     let len = entries::entry_len(size);
-    let mut i = 0;
-    while i < count {
+    for i in 0..count {
         saved[i] = store[i * len + j];
-        i += 1;
     }
 }
 
 // Every weight.
+#[tactic(auto, unfolding(crate::specs::Saved::word_at, model::specs::Entries::words_of))]
 pub fn save_weights(saved: &mut [u64; 256], store: &[u64], size: Size, count: usize)
     requires { Packed size count store.now × (length saved.old ≡ 256) }
     ensures { (length saved.new ≡ 256) × (take count saved.new ≡ map (weight_of keyed_weighed) (listed size count store.now)) }
@@ -119,6 +117,7 @@ pub fn save_weights(saved: &mut [u64; 256], store: &[u64], size: Size, count: us
 }
 
 // Every entry's two keys.
+#[tactic(auto, unfolding(crate::specs::Saved::word_at, model::specs::Entries::words_of))]
 pub fn save_keys(
     words: &mut [u64; 256],
     phases: &mut [u64; 256],
@@ -149,16 +148,14 @@ pub fn restore_word(store: &mut [u64], size: Size, count: usize, j: usize, saved
     ensures { (total : ℕ) → count ≤ total → Packed size total store.old → Packed size total store.new × (listed size total store.new ≡ each_by (with_word j) (take count saved.now) (listed size total store.old)) }
 {
     let len = entries::entry_len(size);
-    let mut i = 0;
-    while i < count {
+    for i in 0..count {
         let at = i * len;
-        let end = at + len;
-        put_word(&mut store[at..end], size, j, saved[i]);
-        i += 1;
+        put_word(&mut store[at..at + len], size, j, saved[i]);
     }
 }
 
 // The weight of each.
+#[tactic(auto, unfolding(crate::specs::Saved::with_word, crate::specs::Saved::with_weights))]
 pub fn restore_weights(store: &mut [u64], size: Size, count: usize, saved: &[u64; 256])
     requires { Sized size (length store.old) × (count ≤ size.capacity) × (length saved.now ≡ 256) }
     ensures { (total : ℕ) → count ≤ total → Packed size total store.old → Packed size total store.new × (listed size total store.new ≡ with_weights (take count saved.now) (listed size total store.old)) }

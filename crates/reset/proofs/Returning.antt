@@ -1,5 +1,6 @@
 -- An entry comes back into the list that is given by places: the search sees that list; and found, above the cutoff or below it, the entry is merged
 -- as the definition says, since the store changes at one place only, which the list has once or not at all. Assumes nothing.
+use Rattle.std.specs.Prelude.{Option, Some, None}
 use mathlib.Core.Path.{◌≡◌, refl, sym, ap, ap₂, ◌∙◌}
 use mathlib.Core.Bool.{true, false}
 use mathlib.Core.List.{List, [], ◌∷◌, ◌++◌, map, map-append}
@@ -16,8 +17,6 @@ use Rattle.model.specs.Keys.{stored_key}
 use Rattle.model.specs.Changes.{changed_entry, changed_keyed}
 use Rattle.model.specs.Store.{Tally, no_loss, begun, keyed_weighed, weight_of, reweighed, gained, stored_or_dropped, settled, merge, above_cutoff}
 use Rattle.model.specs.declared.Size.{Size}
-use Rattle.model.specs.declared.Found.{Found}
-use Rattle.model.specs.declared.Found.TheVariants.{At, Nothing}
 use Rattle.model.proofs.Lists.{get_or-mapped}
 use Rattle.model.proofs.Groups.{stride-le}
 use Rattle.model.proofs.Entries.{length-listed, listed_at}
@@ -160,7 +159,7 @@ module _ {s : Size} {total count : ℕ} {threshold : Float} {i q : ℕ} {order w
   Comes cutoff fate order' w' keys' firsts' =
       Returned s total count threshold cutoff i branch order w order' w' keys' firsts' (record { fate = fate; compared = r.compared })
 
-  abbrev settled_by : Float → Found → Tally Keyed
+  abbrev settled_by : Float → Option ℕ → Tally Keyed
   settled_by cutoff x = settled keyed_weighed (above_cutoff cutoff) branch (begun (picked s count order w)) x
 
   abbrev Others : ℕ → (order' w' : List ℕ) → Type 0
@@ -178,12 +177,12 @@ module _ {s : Size} {total count : ℕ} {threshold : Float} {i q : ℕ} {order w
   walked : Searched s threshold branch (picked s count order w) r
   walked = rw (gathered-picked s count order w fits) at c.searched
 
-  pub place-below : (v : ℕ) → r.found ≡ At v → v < count
+  pub place-below : (v : ℕ) → r.found ≡ Some v → v < count
   place-below v e =
       omega (arith, found_below s threshold branch 0 (picked s count order w) v (sym walked.found ∙ e), picked-long s count order w fits)
 
   -- its answer settles the branch
-  settles : (cutoff : Float) (x : Found) → r.found ≡ x → (fate : Fate) (order' w' keys' firsts' : List ℕ) → Packed s total w' → length order' ≡ 256
+  settles : (cutoff : Float) (x : Option ℕ) → r.found ≡ x → (fate : Fate) (order' w' keys' firsts' : List ℕ) → Packed s total w' → length order' ≡ 256
       → Distinct total (count_by fate count) order' → Noted (count_by fate count) (seen_at s order' w') keys' firsts' → (fate ≡ NoRoom → ⊥)
       → settled_by cutoff x ≡ tally_by fate branch (picked s (count_by fate count) order' w') → Others (count_by fate count) order' w'
       → Comes cutoff fate order' w' keys' firsts'
@@ -201,7 +200,7 @@ module _ {s : Size} {total count : ℕ} {threshold : Float} {i q : ℕ} {order w
       }
 
   -- found at v: the weight there gains its, which becoming live it keeps
-  module _ (v : ℕ) (e : r.found ≡ At v) where
+  module _ (v : ℕ) (e : r.found ≡ Some v) where
     abbrev to : ℕ
     to = get_or order v 0
 
@@ -239,13 +238,13 @@ module _ {s : Size} {total count : ℕ} {threshold : Float} {i q : ℕ} {order w
       pub came-merged : (cutoff : Float) → Packed s total w' → Comes cutoff Merged order w' keys firsts
       unfolding settled count_by tally_by
       came-merged cutoff k =
-          settles cutoff (At v) e Merged order w' keys firsts k c.long c.once (still_noted (seen_at s order w) (seen_at s order w') c.noted keys-stay)
+          settles cutoff (Some v) e Merged order w' keys firsts k c.long c.once (still_noted (seen_at s order w) (seen_at s order w') c.noted keys-stay)
           (λ z. never (cc))
           (ap (λ (es : List Keyed). record { entries = es; merged = 1; stored = 0; dropped = 0; lost = no_loss }) gained-picked)
           (λ j b _ o. (elsewhere s total w w' to sum l j b (λ z. o v below (sym z)), o))
 
   -- found nowhere
-  module _ (e : r.found ≡ Nothing) where
+  module _ (e : r.found ≡ None) where
     -- above the cutoff: it becomes live where it stands, and its place is the last
     module _ (w' : List ℕ) (l : listed s total w' ≡ set (listed s total w) i branch) where
       abbrev order' : List ℕ
@@ -276,7 +275,7 @@ module _ {s : Size} {total count : ℕ} {threshold : Float} {i q : ℕ} {order w
           → Comes cutoff Stored order' w' keys' firsts'
       unfolding settled stored_or_dropped count_by tally_by changed_keyed changed_entry
       came-stored cutoff a k key o keys' firsts' x y =
-          settles cutoff Nothing e Stored order' w' keys' firsts' k long' (one_more count i order few total c.inside c.apart c.once)
+          settles cutoff None e Stored order' w' keys' firsts' k long' (one_more count i order few total c.inside c.apart c.once)
           (one-noted (seen_at s order w) (seen_at s order' w') c.noted earlier-keys (omega (arith, few, c.long)) (o ∙ sym (ap stored_key last-seen)) x y)
           (λ z. never (cc))
           (rw a
@@ -288,4 +287,4 @@ module _ {s : Size} {total count : ℕ} {threshold : Float} {i q : ℕ} {order w
     pub came-dropped : (cutoff : Float) → above_cutoff cutoff (weight_of keyed_weighed (entry_at s w i)) ≡ false → Comes cutoff Dropped order w keys firsts
     unfolding settled stored_or_dropped count_by tally_by changed_keyed changed_entry
     came-dropped cutoff a =
-        settles cutoff Nothing e Dropped order w keys firsts c.packed c.long c.once c.noted (λ z. never (cc)) (rw a) (λ j b m z. (refl, z))
+        settles cutoff None e Dropped order w keys firsts c.packed c.long c.once c.noted (λ z. never (cc)) (rw a) (λ j b m z. (refl, z))

@@ -19,7 +19,7 @@ ghost use Rattle.reset.specs.Tests.{MayReset};
 
 pub use call::{reset_loss_channel, reset_loss_channel_known};
 use merging::{Fate, Limits, Progress, Settled};
-use model::{Answer, BranchMutation, Found, Header, Size};
+use model::{Answer, BranchMutation, Header, Size};
 use seeking::Sought;
 
 // An entry that left: its place, and the qubit that it is lost at.
@@ -46,16 +46,12 @@ fn sought_live(store: &[u64], size: Size, lost: LostEntry) -> Sought
     requires { Within size × (lost.place * entry_len size + entry_len size ≤ length store.now) }
     ensures { result ≡ sought_live size store.now lost }
 {
-    let origin = lost.place;
     let q = lost.qubit;
-    let key = live_key(store, size, origin, q);
-    let mutation = BranchMutation::Loss(q);
-    let change = changes::loss_change(q);
     Sought {
-        origin,
-        mutation,
-        change,
-        key,
+        origin: lost.place,
+        mutation: BranchMutation::Loss(q),
+        change: changes::loss_change(q),
+        key: live_key(store, size, lost.place, q),
     }
 }
 
@@ -77,8 +73,9 @@ pub fn gain(store: &mut [u64], size: Size, total: usize, to: usize, from: usize)
     ensures { Packed size total store.new × (listed size total store.new ≡ set (listed size total store.old) to (gained keyed_weighed (entry_of size (stretch size store.old from)) (entry_of size (stretch size store.old to)))) }
 {
     let len = entries::entry_len(size);
-    let at = to * len;
-    store[at] = words::bits_of(words::float_of(store[at]) + words::float_of(store[from * len]));
+    let more = words::float_of(store[from * len]);
+    let weight = &mut store[to * len];
+    *weight = words::bits_of(words::float_of(*weight) + more);
 }
 
 // The entry is merged into the list of the `count` entries at the places of `order`. Where one is alike, its weight gains the entry's, cutoff
@@ -101,8 +98,8 @@ pub fn bring_back(
     let i = lost.place;
     let sought = sought_live(store, size, lost);
     let search = seeking::seek(
-        &store[..],
-        &order[..],
+        store,
+        order,
         keys,
         firsts,
         size,
@@ -110,9 +107,8 @@ pub fn bring_back(
         limits.threshold,
         sought,
     );
-    let found = search.found;
     let compared = search.compared;
-    let Found::At(v) = found else {
+    let Some(v) = search.found else {
         if words::float_of(store[i * entries::entry_len(size)]) > limits.cutoff {
             revive(store, size, total, i, lost.qubit);
             order[count] = i;
@@ -154,11 +150,10 @@ pub fn bring_all_back(
     let size = limits.size;
     let mut keys = [0u64; 256];
     let mut firsts = [255u8; 4096];
-    seeking::note_all(&mut keys, &mut firsts, store, &order[..], size, stay);
+    seeking::note_all(&mut keys, &mut firsts, store, order, size, stay);
     let mut p = merging::start(stay);
     let out = total - stay;
-    let mut j = 0;
-    while j < out {
+    for j in 0..out {
         let place = left[j];
         let lost = LostEntry { place, qubit: q };
         let weight = store[place * entries::entry_len(size)];
@@ -173,7 +168,6 @@ pub fn bring_all_back(
             lost,
         );
         p = merging::counted(p, settled, weight);
-        j += 1;
     }
     p
 }

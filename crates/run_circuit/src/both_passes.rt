@@ -6,14 +6,14 @@ use crate::{outputs, trying};
 use input::Source;
 use model::{Header, Size};
 use options::{Cutoffs, Output};
-use second_pass::{STACK_WORDS, Wanted};
+use second_pass::Wanted;
 use std::env::Env;
 use streams::STDERR_FILENO;
 
-// What the options say. `qubits` 0: as many as the circuit needs. `cutoffs` of which there are none: the circuit is run.
+// What the options say. No `qubits`: as many as the circuit needs. `cutoffs` of which there are none: the circuit is run.
 #[derive(Clone, Copy)]
 pub struct Setup {
-    pub qubits: usize,
+    pub qubits: Option<usize>,
     pub capacity: usize,
     pub threshold: f64,
     pub cutoff: f64,
@@ -25,56 +25,34 @@ pub struct Setup {
 
 // ---- the first pass
 
-// Whether all lines are good, and how many qubits they need.
-#[derive(Clone, Copy)]
-struct Looked {
-    ok: bool,
-    qubits: usize,
-}
-
-fn none() -> Looked {
-    Looked {
-        ok: false,
-        qubits: 0,
-    }
-}
-
 const MOST_TOLD: usize = 20;
 
-// Bad lines are told, the first 20 of them.
-fn look(s: &Source, name: &[u8], bytes: &mut [u8], limit: usize) -> Looked {
+// How many qubits the lines need, if all are good. Bad lines are told, the first 20 of them.
+fn look(s: &Source, name: &[u8], bytes: &mut [u8], limit: usize) -> Option<usize> {
     let mut begun = [0u64; 64];
     let mut c = first_pass::start();
-    let mut told: usize = 0;
-    while told < MOST_TOLD {
+    for told in 0..MOST_TOLD {
         c = first_pass::check(s, bytes, &mut begun, c, limit);
         if passes::is_done(c.pass) {
-            return Looked {
-                ok: told == 0,
-                qubits: c.qubits,
-            };
+            return (told == 0).then_some(c.qubits);
         }
         messages::tell(name, bytes, c.pass);
         if !passes::can_go_on(c.pass) {
-            return none();
+            return None;
         }
         c = first_pass::resumed(c);
-        told += 1;
     }
     c = first_pass::check(s, bytes, &mut begun, c, limit);
     if !passes::is_done(c.pass) {
         printing::say(b"run_circuit: more than 20 lines are bad; the others are not told\n");
     }
-    none()
+    None
 }
 
 // ---- the second pass
 
 fn is_trace(output: Output) -> bool {
-    match output {
-        Output::Trace => true,
-        _ => false,
-    }
+    matches!(output, Output::Trace)
 }
 
 // The sum's last state, printed.
@@ -99,10 +77,9 @@ fn run_from(
 ) -> bool
     requires { Checked (held h store.old) }
 {
-    let mut stack = [0u64; STACK_WORDS];
-    let output = s.output;
+    let mut stack = second_pass::stack();
     let wanted = Wanted {
-        trace: is_trace(output),
+        trace: is_trace(s.output),
         most_lost: s.most_lost,
     };
     let r = second_pass::run_all(source, bytes, &mut stack, store, h, true, wanted);
@@ -110,13 +87,9 @@ fn run_from(
         messages::tell_run(name, bytes, r, &stack, store, scratch);
         return false;
     }
-    if !print(output, r.header, store) {
-        return false;
-    }
-    if !outputs::say_if_empty(r.header) {
-        return false;
-    }
-    s.quiet || outputs::say_summary(r)
+    print(s.output, r.header, store)
+        && outputs::say_if_empty(r.header)
+        && (s.quiet || outputs::say_summary(r))
 }
 
 // Whether the fresh sum may be run, and the head of a trace is written.
@@ -127,11 +100,7 @@ fn may_run(h: Header, s: Setup) -> bool {
         );
         return false;
     }
-    let output = s.output;
-    if is_trace(output) {
-        return outputs::is_written(second_pass::write_head());
-    }
-    true
+    !is_trace(s.output) || outputs::is_written(second_pass::write_head())
 }
 
 fn size_of(n: usize, s: Setup) -> Size {
@@ -162,10 +131,7 @@ fn run_fresh(
         outputs::tell_refused(b"the fresh sum", a.number);
         return false;
     }
-    if may_run(a.header, s) {
-        return run_from(source, name, bytes, store, scratch, a.header, s);
-    }
-    false
+    may_run(a.header, s) && run_from(source, name, bytes, store, scratch, a.header, s)
 }
 
 // .. and another one of the largest length, where it is tried by how much a call outgrew its room.
@@ -203,7 +169,7 @@ fn try_in_store(
 
 // A circuit without a target makes no call. That is told; and where nothing says how many qubits there are, there is no sum either.
 fn may_be_empty(name: &[u8], s: Setup) -> bool {
-    if s.qubits == 0 {
+    if s.qubits.is_none() {
         printing::say(name);
         printing::say(
             b": the circuit makes no call, since no instruction has a target, and there is no --qubits: nothing was run\n",
@@ -217,29 +183,14 @@ fn may_be_empty(name: &[u8], s: Setup) -> bool {
         )
 }
 
-// How many qubits the options say, or otherwise.
-fn qubits_of(s: Setup, otherwise: usize) -> usize {
-    if s.qubits != 0 {
-        return s.qubits;
-    }
-    otherwise
-}
-
 // Whether all that was asked for is written; else it was said why not.
 pub fn run(rt: &impl Env, source: &Source, name: &[u8], bytes: &mut [u8], s: Setup) -> bool {
-    let l = look(source, name, bytes, qubits_of(s, 64));
-    if !l.ok {
+    let Some(needed) = look(source, name, bytes, s.qubits.unwrap_or(64)) else {
         return false;
-    }
-    let cutoffs = s.cutoffs;
-    let n = qubits_of(s, l.qubits);
-    if cutoffs.count != 0 {
+    };
+    let n = s.qubits.unwrap_or(needed);
+    if s.cutoffs.count != 0 {
         return try_in_store(rt, source, name, bytes, n, s);
     }
-    if l.qubits == 0 {
-        if !may_be_empty(name, s) {
-            return false;
-        }
-    }
-    run_in_stores(source, name, bytes, n, s)
+    (needed != 0 || may_be_empty(name, s)) && run_in_stores(source, name, bytes, n, s)
 }

@@ -11,19 +11,12 @@ use streams::STDOUT_FILENO;
 const NOT_OPEN: i32 = 9;
 
 fn is_not_open(e: Error) -> bool {
-    match e.raw_os_error() {
-        Some(code) => code == NOT_OPEN,
-        None => false,
-    }
+    e.raw_os_error() == Some(NOT_OPEN)
 }
 
 // No other descriptor can be made of one that is closed.
 fn is_closed<F: AsFd>(stream: &F) -> bool {
-    let borrowed = stream.as_fd();
-    match borrowed.try_clone_to_owned() {
-        Ok(_) => false,
-        Err(e) => is_not_open(e),
-    }
+    stream.as_fd().try_clone_to_owned().is_err_and(is_not_open)
 }
 
 // Standard error is not there to say it.
@@ -61,10 +54,7 @@ const OUTPUT: &str = "/proc/self/fd/1";
 
 // Whether standard output is a file that keeps what is written to it.
 fn is_kept(rt: &HostRuntime) -> bool {
-    match fs::metadata(rt, OUTPUT) {
-        Ok(m) => m.is_file(),
-        Err(_) => false,
-    }
+    fs::metadata(rt, OUTPUT).is_ok_and(|m| m.is_file())
 }
 
 // What was written to standard output is brought to where it is kept.

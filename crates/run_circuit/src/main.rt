@@ -16,22 +16,20 @@ use std::fs::File;
 use std::io::{Error, ErrorKind, Result};
 use std::rt::HostRuntime;
 
-// How a run ends.
+// Why not everything that was asked for is written. It was said what.
 #[derive(Clone, Copy)]
-enum Status {
-    // Everything that was asked for is written.
-    Done,
-    // The circuit is bad, a call was refused, or something could not be read or written. It was said what.
-    Failed,
+enum Failure {
+    // The circuit is bad, a call was refused, or something could not be read or written.
+    Run,
     // The arguments are wrong.
     Usage,
 }
 
-fn status_of(done: bool) -> Status {
-    if done {
-        return Status::Done;
-    }
-    Status::Failed
+// How a run ends.
+type Ended = std::result::Result<(), Failure>;
+
+fn ended(done: bool) -> Ended {
+    if done { Ok(()) } else { Err(Failure::Run) }
 }
 
 // ---- the circuit
@@ -46,21 +44,21 @@ fn run_in(rt: &HostRuntime, given: Given, name: &[u8], folder: &[u8], s: Setup) 
 }
 
 // .. to the folder that an option names, or to /tmp.
-fn run_from(rt: &HostRuntime, given: Given, name: &[u8], s: Setup) -> Status {
+fn run_from(rt: &HostRuntime, given: Given, name: &[u8], s: Setup) -> Ended {
     let place = options::place_of(rt, b"--tmpdir");
     if place.argument == 0 {
-        return status_of(run_in(rt, given, name, b"/tmp", s));
+        return ended(run_in(rt, given, name, b"/tmp", s));
     }
     let mut folder = io::buffer();
     let n = options::value_of(rt, place, &mut folder);
     if n == 0 {
         printing::say(b"run_circuit: --tmpdir: the name of a folder was expected\n");
-        return Status::Usage;
+        return Err(Failure::Usage);
     }
-    status_of(run_in(rt, given, name, &folder[..n], s))
+    ended(run_in(rt, given, name, &folder[..n], s))
 }
 
-fn run_input(rt: &HostRuntime, s: Setup) -> Status {
+fn run_input(rt: &HostRuntime, s: Setup) -> Ended {
     run_from(rt, Given::Input, b"standard input", s)
 }
 
@@ -71,23 +69,23 @@ fn opened(rt: &HostRuntime, name: &[u8]) -> Result<File> {
     }
 }
 
-fn run_file(rt: &HostRuntime, name: &[u8], s: Setup) -> Status {
+fn run_file(rt: &HostRuntime, name: &[u8], s: Setup) -> Ended {
     match opened(rt, name) {
         Ok(file) => run_from(rt, Given::Named(file), name, s),
         Err(e) => {
             printing::say_why(name, e);
-            Status::Failed
+            Err(Failure::Run)
         }
     }
 }
 
-// Argument `place` names the file; 0 and `-` are standard input.
-fn run_named(rt: &HostRuntime, place: usize, s: Setup) -> Status {
+// The argument that names the file, if one does; `-` is standard input too.
+fn run_named(rt: &HostRuntime, file: Option<usize>, s: Setup) -> Ended {
+    let Some(place) = file else {
+        return run_input(rt, s);
+    };
     let mut name = io::buffer();
     let n = options::put_argument(rt, place, &mut name);
-    if place == 0 {
-        return run_input(rt, s);
-    }
     if check::same(&name[..n], b"-") {
         return run_input(rt, s);
     }
@@ -96,7 +94,8 @@ fn run_named(rt: &HostRuntime, place: usize, s: Setup) -> Status {
 
 // ---- the arguments
 
-fn run_options(rt: &HostRuntime, place: usize) -> Status {
+// What the options say, if all are sound. All are read first: of each one that is not, it is said what is wrong.
+fn setup(rt: &HostRuntime) -> Option<Setup> {
     let qubits = options::count_option(rt, b"--qubits", 1, 64, 0, b"a whole number from 1 to 64");
     let capacity = options::count_option(
         rt,
@@ -110,74 +109,78 @@ fn run_options(rt: &HostRuntime, place: usize) -> Status {
     let cutoff = options::bound_option(rt, b"--cutoff", 0.0);
     let cutoffs = options::cutoffs_option(rt);
     let most_lost = options::bound_option(rt, b"--max-lost", 2.0);
-    let choice = options::output_option(rt);
-    let output = choice.output;
-    let setup = Setup {
-        qubits: qubits.value,
-        capacity: capacity.value,
-        threshold: threshold.value,
-        cutoff: cutoff.value,
-        cutoffs,
-        most_lost: most_lost.value,
-        output,
+    let output = options::output_option(rt);
+    let n = qubits?;
+    Some(Setup {
+        qubits: (n != 0).then_some(n),
+        capacity: capacity?,
+        threshold: threshold?,
+        cutoff: cutoff?,
+        cutoffs: cutoffs?,
+        most_lost: most_lost?,
+        output: output?,
         quiet: options::is_given(rt, b"--quiet"),
-    };
-    let sound = qubits.ok && capacity.ok && threshold.ok && cutoff.ok && cutoffs.ok;
-    if sound && most_lost.ok && choice.ok {
-        return run_named(rt, place, setup);
-    }
-    Status::Usage
+    })
 }
 
-fn run_arguments(rt: &HostRuntime) -> Status {
-    let f = options::files(rt);
-    if !f.ok {
-        return Status::Usage;
+fn run_options(rt: &HostRuntime, file: Option<usize>) -> Ended {
+    match setup(rt) {
+        Some(s) => run_named(rt, file, s),
+        None => Err(Failure::Usage),
     }
+}
+
+fn run_arguments(rt: &HostRuntime) -> Ended {
+    let Ok(file) = options::files(rt) else {
+        return Err(Failure::Usage);
+    };
     if options::is_given(rt, b"--help") || options::is_given(rt, b"-h") {
-        return status_of(outputs::is_written(help::write()));
+        return ended(outputs::is_written(help::write()));
     }
     if options::is_given(rt, b"--version") {
-        return status_of(outputs::is_written(help::write_version()));
+        return ended(outputs::is_written(help::write_version()));
     }
-    run_options(rt, f.place)
+    run_options(rt, file)
 }
 
 // ---- the report
 
-// A status, written to a descriptor: the program itself always ends with 0. 0: to none.
-fn report(to: usize, status: Status)
+// The status, written to a descriptor: the program itself always ends with 0. 0: to none.
+fn report(to: usize, how: Ended)
     requires { to ≤ 255 }
 {
     if to == 0 {
         return;
     }
     let fd = to as i32;
-    let written = match status {
-        Status::Done => io::write_all(fd, b"0\n"),
-        Status::Failed => io::write_all(fd, b"1\n"),
-        Status::Usage => io::write_all(fd, b"2\n"),
+    let status = match how {
+        Ok(()) => b"0\n",
+        Err(Failure::Run) => b"1\n",
+        Err(Failure::Usage) => b"2\n",
     };
-    if !written {
+    if !io::write_all(fd, status) {
         printing::say_failed(b"run_circuit: --report");
     }
 }
 
 // All of it. What was written to standard output is kept here, since some file systems tell only then that they could not write.
-fn run_all(rt: &HostRuntime) -> Status {
-    let status = run_arguments(rt);
-    if let Status::Done = status {
-        return status_of(outputs::is_kept(descriptors::keep_output(rt)));
-    }
-    status
+fn run_all(rt: &HostRuntime) -> Ended {
+    run_arguments(rt)?;
+    ended(outputs::is_kept(descriptors::keep_output(rt)))
 }
 
 fn main(rt: HostRuntime) {
     if !descriptors::are_open(&rt) {
         return;
     }
-    let to = options::count_option(&rt, b"--report", 3, 255, 0, b"a descriptor from 3 to 255");
-    if to.ok {
-        report(to.value, run_all(&rt));
+    if let Some(to) = options::count_option(
+        &rt,
+        b"--report",
+        3,
+        255,
+        0,
+        b"a descriptor from 3 to 255",
+    ) {
+        report(to, run_all(&rt));
     }
 }

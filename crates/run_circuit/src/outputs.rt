@@ -36,13 +36,12 @@ pub fn is_kept(kept: Result<()>) -> bool {
 // The text that a call gave this answer for, printed. Whether it was written; else it is said why not. (No call writes more than it has room
 // for.)
 fn write_text(what: &[u8], a: Answer, text: &[u8]) -> bool {
-    let end = a.length;
     if a.number != 0 {
         tell_refused(what, a.number);
         return false;
     }
-    if end <= text.len() {
-        return is_written(io::write_all(STDOUT_FILENO, &text[0..end]));
+    if let Some(written) = text.get(..a.length) {
+        return is_written(io::write_all(STDOUT_FILENO, written));
     }
     printing::say(b"run_circuit: ");
     printing::say(what);
@@ -77,16 +76,12 @@ pub fn write_page(h: Header, store: &[u64]) -> bool {
 // ---- the table
 
 fn word_at(words: &[u64], at: usize) -> u64 {
-    if at < words.len() {
-        return words[at];
-    }
-    0
+    words.get(at).copied().unwrap_or(0)
 }
 
 // The weight bits of the entry at a place.
 fn weight_at(store: &[u64], h: Header, place: u64) -> u64 {
-    let size = h.size;
-    word_at(store, calls::words(size.n, place as usize))
+    word_at(store, calls::words(h.size.n, place as usize))
 }
 
 fn write_entry(place: u64, weight: u64, total: u64) -> bool {
@@ -100,16 +95,13 @@ fn write_entry(place: u64, weight: u64, total: u64) -> bool {
 }
 
 fn write_entries(h: Header, store: &[u64], table: &[u64], count: usize) -> bool {
-    let mut i: usize = 0;
-    while i < 256 {
-        if count <= i {
+    for entry in table.chunks_exact(2).take(count) {
+        let [place, total] = *entry else {
             return true;
-        }
-        let place = word_at(table, 2 * i);
-        if !write_entry(place, weight_at(store, h, place), word_at(table, 2 * i + 1)) {
+        };
+        if !write_entry(place, weight_at(store, h, place), total) {
             return false;
         }
-        i += 1;
     }
     true
 }
@@ -158,9 +150,8 @@ fn say_lost(x: f64) -> bool {
 
 pub fn say_summary(r: Run) -> bool {
     let h = r.header;
-    let size = h.size;
     let t = r.totals;
-    say_count(b"qubits", size.n as u64)
+    say_count(b"qubits", h.size.n as u64)
         && say_count(b"calls", t.calls)
         && say_count(b"entries", h.count as u64)
         && say_count(b"merged", t.merged)

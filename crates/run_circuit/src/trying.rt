@@ -22,17 +22,14 @@ fn try_steps(
     c: Cutoffs,
 ) -> bool {
     let mut out = [0u64; 1024];
-    let steps = g.steps;
-    let values = c.values;
-    let cutoffs = c.count;
-    if values.len() < cutoffs {
+    let (Some(steps), Some(values)) = (g.steps.get(..g.count), c.values.get(..c.count)) else {
         return refused(11);
-    }
-    let number = step_pass::try_cutoffs(size, threshold, &values[0..cutoffs], g, store, &mut out);
+    };
+    let number = step_pass::try_cutoffs(size, threshold, values, g, store, &mut out);
     if number != 0 {
         return refused(number);
     }
-    outputs::is_written(entries_table::write(rt, steps, g.count, c, &out))
+    outputs::is_written(entries_table::write(rt, steps, c, &out))
 }
 
 // The steps of a circuit that was looked at, in a store of the length that its size has.

@@ -115,11 +115,11 @@ module _ (len bytes : ℕ) where
       }
 
   -- none is left
-  pub running-end : {cs ds : List Call} {x₀ x : Lent} {log₀ log text₀ text : List ℕ} {i : ℕ} (room : Room) → len ≡ record_len room → bytes ≡ room.bytes → ds ≡ [] → Running cs x₀ log₀ text₀ i ds x log text
-      → ended i x log text ≡ ran_these room cs x₀ log₀ text₀
+  pub running-end : {cs ds : List Call} {x₀ x : Lent} {log₀ log text₀ text : List ℕ} {i n : ℕ} (room : Room) → n ≡ i → len ≡ record_len room → bytes ≡ room.bytes → ds ≡ [] → Running cs x₀ log₀ text₀ i ds x log text
+      → ended n x log text ≡ ran_these room cs x₀ log₀ text₀
   unfolding after_calls
-  running-end {cs = cs} {x₀ = x₀} {log₀ = log₀} {text₀ = text₀} {i = i} room p q e r =
+  running-end {cs = cs} {x₀ = x₀} {log₀ = log₀} {text₀ = text₀} {i = i} room m p q e r =
       let s = rw e at r in
-      all_same (omega (arith, s.made)) s.lent
+      all_same (omega (arith, m, s.made)) s.lent
       (filling-end len record_of i s.log_is ∙ ap (λ (n : ℕ). filled n record_of cs x₀ log₀) p)
       (filling-end bytes text_of i s.text_is ∙ ap (λ (n : ℕ). filled n text_of cs x₀ text₀) q)

@@ -11,6 +11,7 @@ use lib.Seq.{length-take-le}
 use borrow.Author.Tests.{leb-true}
 use Rattle.model.specs.Lists.{every}
 use Rattle.model.specs.Calls.{Call}
+use Rattle.model.proofs.Groups.{stride-le}
 use Rattle.model.proofs.Lists.{and_both, every-at, length-groups, group_at, get_or-mapped}
 use Rattle.perform.specs.Encoding.{call_words, shown_words, most_shown, known, shows_words, fitting, call_of}
 use Rattle.runs.specs.Runs.{count_in, groups_in, calls_in, record_len, fits}
@@ -49,6 +50,14 @@ module _ (room : Room) (calls : List ℕ) (log text : ℕ) where
   unfolding fits
   five p q r s t = rw (← p, ← q, ← r, ← s, ← t)
 
+-- in call i's turn, its record and its text are there
+module _ {room : Room} {calls : List ℕ} {log text : ℕ} (f : Fitting room calls log text) (i : ℕ) (h : i < count_in calls) where
+  pub log-within : {len : ℕ} → len ≡ record_len room → i * len + len ≤ log
+  log-within e = rw e (omega (arith, stride-le (record_len room) i (count_in calls) h, f.records))
+
+  pub text-within : i * room.bytes + room.bytes ≤ text
+  text-within = omega (arith, stride-le room.bytes i (count_in calls) h, f.texts)
+
 -- ---- one call that fits: a known kind, and its record can show what it may show
 
 pub record FittingCall (shown : ℕ) (w : List ℕ) : Type 0 where
@@ -69,6 +78,9 @@ module _ (calls : List ℕ) where
 
   pub words-within : count_in calls * call_words ≤ length calls
   words-within = div-mul-le_self (length calls) call_words
+
+  pub call-within : (i : ℕ) → i < count_in calls → i * call_words + call_words ≤ length calls
+  call-within i h = omega (arith, stride-le call_words i (count_in calls) h, words-within)
 
   pub words_long : (i : ℕ) → i * call_words + call_words ≤ length calls → length (words_at i) ≡ call_words
   words_long i h = length-take-le call_words (drop (i * call_words) calls) (omega (arith, length-drop (i * call_words) calls))

@@ -33,7 +33,7 @@ pub struct Ran {
 }
 
 // The number of a run that does not fit: its words are no whole calls of known kinds, or records, log or text are too short for them. No
-// call gives it.
+// call gives it. A number, for the C interface.
 pub const DOES_NOT_FIT: u64 = 19;
 
 // ---- what is there for a run
@@ -42,10 +42,7 @@ pub const DOES_NOT_FIT: u64 = 19;
 fn enough(room: usize, each: usize, count: usize) -> bool
     ensures { result ≡ leb (count * each) room }
 {
-    if each == 0 {
-        return true;
-    }
-    count <= room / each
+    each == 0 || count <= room / each
 }
 
 // Every call has a known kind, and a record that can show what it may show.
@@ -53,13 +50,11 @@ fn all_fitting(calls: &[u64], count: usize, shown: usize) -> bool
     requires { count * call_words ≤ length calls.now }
     ensures { result ≡ every (fitting shown) (groups call_words count calls.now) }
 {
-    let mut i = 0;
-    while i < count {
+    for i in 0..count {
         let call = words::stretch(calls, perform::CALL_WORDS, i);
         if !perform::fitting(call, shown) {
             return false;
         }
-        i += 1;
     }
     true
 }
@@ -73,24 +68,17 @@ fn record_len(room: Room) -> usize
 }
 
 // Whole calls of known kinds that can show what they may show, with a record and a stretch of text for each.
+#[tactic(auto, unfolding(crate::specs::Runs::fits))]
 fn fits(calls: &[u64], log: usize, text: usize, room: Room) -> bool
     ensures { result ≡ Runs.fits room calls.now log text }
 {
     let words = calls.len();
     let count = words / perform::CALL_WORDS;
-    if words % perform::CALL_WORDS != 0 {
-        return false;
-    }
-    if perform::MOST_SHOWN < room.shown {
-        return false;
-    }
-    if !enough(log, record_len(room), count) {
-        return false;
-    }
-    if !enough(text, room.bytes, count) {
-        return false;
-    }
-    all_fitting(calls, count, room.shown)
+    words % perform::CALL_WORDS == 0
+        && room.shown <= perform::MOST_SHOWN
+        && enough(log, record_len(room), count)
+        && enough(text, room.bytes, count)
+        && all_fitting(calls, count, room.shown)
 }
 
 // ---- runs
@@ -99,10 +87,7 @@ fn fits(calls: &[u64], log: usize, text: usize, room: Room) -> bool
 fn ends(stop: bool, number: u64) -> bool
     ensures { result ≡ (stop && not (eqb number 0)) }
 {
-    if stop {
-        return number != 0;
-    }
-    false
+    stop && number != 0
 }
 
 // All calls, in order, each given header and store as the last one left them; with `stop`, up to the first that is refused. The bodies are
@@ -125,8 +110,7 @@ fn run_calls(
     let bytes = room.bytes;
     let mut header = h;
     let mut sure = known;
-    let mut made = 0;
-    while made < count {
+    for made in 0..count {
         let call = words::stretch(calls, perform::CALL_WORDS, made);
         let from = made * words;
         let to = from + words;
@@ -142,18 +126,17 @@ fn run_calls(
         );
         header = a.header;
         sure = checks::known_after(sure, a.number);
-        made += 1;
         if ends(stop, a.number) {
             return Ran {
                 number: 0,
-                made,
+                made: made + 1,
                 header,
             };
         }
     }
     Ran {
         number: 0,
-        made,
+        made: count,
         header,
     }
 }

@@ -1,5 +1,5 @@
 -- Where a byte stands first in a stretch of a text. Assumes nothing.
-use Rattle.std.specs.Prelude.{ℕ, List, ◌≡◌, ◌≢◌, ◌<◌, ◌≤◌, get_or}
+use Rattle.std.specs.Prelude.{ℕ, List, ◌≢◌, ◌<◌, ◌≤◌, get_or}
 
 -- no place from one on up to another has the byte
 abbrev pub Lacks : List ℕ → ℕ → ℕ → ℕ → Type 0

@@ -11,12 +11,10 @@ pub fn find(bytes: &[u8], from: usize, to: usize, byte: u8) -> usize
     ensures has { result < to → get_or bytes.now result 0 ≡ byte }
     ensures first { Lacks bytes.now from result byte }
 {
-    let mut i = from;
-    while i < to {
+    for i in from..to {
         if bytes[i] == byte {
             return i;
         }
-        i += 1;
     }
     to
 }

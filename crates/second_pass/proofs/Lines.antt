@@ -5,16 +5,15 @@ use mathlib.Core.Bool.{Bool}
 use mathlib.Core.List.{List, [], ◌∷◌, map}
 use lib.Ieee.{Float}
 use Rattle.model.specs.Calls.{Call, Lent, Left, held, step}
-use Rattle.model.specs.Known.{Known, known_after, Stepped}
+use Rattle.model.specs.Known.{Known, Stepped}
 use Rattle.model.specs.Demand3.{next}
 use Rattle.model.specs.declared.Answer.{Answer}
 use Rattle.model.specs.declared.Header.{Header}
 use Rattle.passes.specs.Turns.{Stands}
 use Rattle.passes.specs.declared.Outcome.{Outcome}
-use Rattle.passes.specs.declared.Outcome.TheVariants as Outcome
 use Rattle.circuit.specs.Names.{takes_pairs}
 use Rattle.circuit.specs.Lines.{line_of}
-use Rattle.circuit.specs.Targets.{target_at, Pair, targets_from}
+use Rattle.circuit.specs.Targets.{target_at, Pair}
 use Rattle.circuit.specs.declared.lines.Act.{Act}
 use Rattle.circuit.specs.declared.lines.Item.{Item}
 use Rattle.circuit.specs.declared.lines.Line.{Line}
@@ -23,34 +22,22 @@ use Rattle.circuit.specs.declared.lines.Target.{Target}
 use Rattle.circuit.proofs.TargetLists.{targets-end, targets_next}
 use Rattle.calls.specs.Instructions.{call_of}
 use Rattle.second_pass.specs.declared.second.Run.{Run}
-use Rattle.second_pass.specs.Lines.{calls_of, calls_for, line_calls, After, Made, all_made, goes_on, ends, Ran, instruction, other, LineRan}
+use Rattle.second_pass.specs.Lines.{calls_of, calls_for, line_calls, After, Made, all_made, goes_on, ends, Ran, other, LineRan}
 
 -- ---- one call
 
 pub known_as : (j k : Bool) (g h : Header) (w : List ℕ) → k ≡ j → h ≡ g → Known j (held g w) → Known k (held h w)
 known_as j k g h w e f b = subst (λ (k : Bool). Known k (held h w)) (sym e) (subst (λ (h : Header). Known j (held h w)) (sym f) b)
 
--- a run that has the header, and knows, what a call left it with
-module _ (c : Call) (k : Bool) (x : Lent) (a : Answer) (w : List ℕ) (s : Stepped c k x a w) where
-  pub call-number : a.number ≡ (step c x).answer.number
-  call-number = ap (λ (l : Left). l.answer.number) s.is
-
-  module _ (r : Run) (e : r.header ≡ a.header) (f : r.known ≡ known_after k a.number) where
-    pub call-is : held r.header w ≡ next (step c x)
-    call-is = ap (λ (h : Header). held h w) e ∙ ap next s.is
-
-    pub call_known : Known r.known (held r.header w)
-    call_known = known_as (known_after k a.number) r.known a.header r.header w f e s.after
+-- how the pass stands after an answer's number, after the call
+pub stood : {c : Call} {k : Bool} {x : Lent} {a : Answer} {w : List ℕ} {o : Outcome} → Stepped c k x a w → After a.number o → After (step c x).answer.number o
+stood {o = o} s h = subst (λ (n : ℕ). After n o) (ap (λ (l : Left). l.answer.number) s.is) h
 
 -- ---- a line that calls nothing
 
--- a run with the same header that knows the same
-module _ (r s : Run) (w : List ℕ) (e : s.header ≡ r.header) (f : s.known ≡ r.known) where
-  pub same_sum : held s.header w ≡ held r.header w
-  same_sum = ap (λ (h : Header). held h w) e
-
-  pub same_known : Known r.known (held r.header w) → Known s.known (held s.header w)
-  same_known k = known_as r.known s.known r.header s.header w f e k
+-- a run with the same header
+pub same_sum : (r s : Run) (w : List ℕ) → s.header ≡ r.header → held s.header w ≡ held r.header w
+same_sum r s w e = ap (λ (h : Header). held h w) e
 
 -- a line that was read as l, and what that asks for
 module _ (text : List ℕ) (l : Line) (e : l ≡ line_of text) {i : Item} (asks : l.item ≡ i) where

@@ -11,7 +11,6 @@ use borrow.Author.Tests.{eq-eqb, ne_eqb}
 use Rattle.model.specs.Calls.{Call, Lent, step}
 use Rattle.model.specs.Demand3.{next, after_calls, made_of}
 use Rattle.passes.specs.declared.Outcome.{Outcome}
-use Rattle.passes.specs.declared.Outcome.TheVariants as Outcome
 use Rattle.circuit.specs.declared.lines.Item.{Item}
 use Rattle.passes.specs.Going.{goes}
 use Rattle.passes.specs.Turns.{line, no_line, Passed, begun, then}

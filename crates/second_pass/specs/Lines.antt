@@ -5,7 +5,6 @@ use Rattle.model.specs.Calls.{Call, Lent, step}
 use Rattle.model.specs.Demand3.{next, after_calls, made_of}
 use Rattle.passes.specs.Turns.{Stands}
 use Rattle.passes.specs.declared.Outcome.{Outcome}
-use Rattle.passes.specs.declared.Outcome.TheVariants as Outcome
 use Rattle.circuit.specs.Names.{takes_pairs}
 use Rattle.circuit.specs.Lines.{line_of}
 use Rattle.circuit.specs.Targets.{targets_from}

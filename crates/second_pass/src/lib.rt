@@ -5,6 +5,6 @@ mod blocks;
 mod second;
 mod trace;
 
-pub use blocks::{Repetition, STACK_WORDS, closed, opened, repetition_of};
+pub use blocks::{Block, Stack, closed, opened, stack};
 pub use second::{Run, Wanted, run_all};
 pub use trace::{put_name, write_head};

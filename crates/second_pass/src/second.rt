@@ -7,11 +7,11 @@ ghost use Rattle.calls.specs.Instructions.{call_on};
 ghost use Rattle.passes.specs.Turns.{Turn, Next, Passed};
 ghost use Rattle.second_pass.specs.Lines.{calls_of, After, Made, LineRan};
 
-use crate::blocks::STACK_WORDS;
+use crate::blocks::Stack;
 use crate::{blocks, trace};
 use calls::Operation;
 use circuit::{Act, Item, Line, Seen};
-use input::{Found, Source};
+use input::{Found, Source, Window};
 use model::{Answer, Header};
 use passes::{Outcome, Pass};
 
@@ -45,21 +45,14 @@ pub struct Wanted {
 
 // ---- what a call came to
 
-fn plus(a: u64, b: usize) -> u64 {
-    if a <= u64::MAX - b as u64 {
-        return a + b as u64;
-    }
-    u64::MAX
-}
-
 fn added(t: Totals, a: Answer, lost: f64) -> Totals {
     let c = a.counts;
     Totals {
         calls: passes::next(t.calls),
-        merged: plus(t.merged, c.merged),
-        stored: plus(t.stored, c.stored),
-        dropped: plus(t.dropped, c.dropped),
-        compared: plus(t.compared, c.compared),
+        merged: t.merged.saturating_add(c.merged as u64),
+        stored: t.stored.saturating_add(c.stored as u64),
+        dropped: t.dropped.saturating_add(c.dropped as u64),
+        compared: t.compared.saturating_add(c.compared as u64),
         lost,
     }
 }
@@ -67,14 +60,7 @@ fn added(t: Totals, a: Answer, lost: f64) -> Totals {
 fn with_pass(r: Run, pass: Pass) -> Run
     ensures { (result.pass ≡ pass) × (result.header ≡ r.header) × (result.known ≡ r.known) }
 {
-    let header = r.header;
-    let totals = r.totals;
-    Run {
-        pass,
-        header,
-        known: r.known,
-        totals,
-    }
+    Run { pass, ..r }
 }
 
 fn ended(r: Run, outcome: Outcome, from: usize, to: usize) -> Run
@@ -87,9 +73,7 @@ fn ended(r: Run, outcome: Outcome, from: usize, to: usize) -> Run
 
 // What has been lost of the initial weight after a call on a sum of this total.
 fn lost_after(lost: f64, a: Answer, total: f64) -> f64 {
-    let counts = a.counts;
-    let header = a.header;
-    calls::lost_after(lost, a.lost, total, 0 < counts.dropped, header.count)
+    calls::lost_after(lost, a.lost, total, 0 < a.counts.dropped, a.header.count)
 }
 
 // The weight that a call can lose a part of; 0 before one that can lose nothing.
@@ -106,14 +90,10 @@ fn weight_at_stake(r: Run, store: &[u64], act: Act) -> f64
 fn with_answer(r: Run, a: Answer) -> Run
     ensures { (result.pass ≡ r.pass) × (result.header ≡ a.header) × (result.known ≡ known_after r.known a.number) }
 {
-    let pass = r.pass;
-    let header = a.header;
-    let totals = r.totals;
     Run {
-        pass,
-        header,
+        header: a.header,
         known: checks::known_after(r.known, a.number),
-        totals,
+        ..r
     }
 }
 
@@ -122,13 +102,9 @@ fn with_totals(r: Run, l: Line, a: Answer, lost: f64, most: f64) -> Run
     requires { r.pass.outcome ≡ Outcome.Going }
     ensures { After 0 result.pass.outcome × (result.header ≡ r.header) × (result.known ≡ r.known) }
 {
-    let pass = r.pass;
-    let header = r.header;
     let next = Run {
-        pass,
-        header,
-        known: r.known,
         totals: added(r.totals, a, lost),
+        ..r
     };
     if most < lost {
         return ended(next, Outcome::TooMuchLost(lost), l.from, l.to);
@@ -143,26 +119,18 @@ fn call(line: &[u8], l: Line, o: Operation, store: &mut [u64], r: Run, wanted: W
     ensures stands { After (step (call_on o) (held r.header store.old)).answer.number result.pass.outcome }
     ensures known { Known result.known (held result.header store.new) }
 {
-    let before = r.totals;
-    let pass = r.pass;
-    let act = o.act;
-    let total = weight_at_stake(r, store, act);
+    let total = weight_at_stake(r, store, o.act);
     let a = calls::make(r.header, store, o, r.known);
     let next = with_answer(r, a);
-    let written = trace::write_if(wanted.trace, pass.line, line, l, o, a);
+    let written = trace::write_if(wanted.trace, r.pass.line, line, l, o, a);
     if a.number != 0 {
         return ended(next, Outcome::Refused(a.number, o.p, o.q), l.from, l.to);
     }
     if !written {
         return ended(next, Outcome::Unwritten, 0, 0);
     }
-    with_totals(
-        next,
-        l,
-        a,
-        lost_after(before.lost, a, total),
-        wanted.most_lost,
-    )
+    let lost = lost_after(r.totals.lost, a, total);
+    with_totals(next, l, a, lost, wanted.most_lost)
 }
 
 // The calls of a line, target by target.
@@ -177,8 +145,7 @@ fn run_targets(line: &[u8], l: Line, act: Act, store: &mut [u64], r: Run, wanted
     let mut at = l.targets;
     loop {
         let t = circuit::target(line, at, pairs);
-        let seen = t.seen;
-        let Seen::At(p, q) = seen else {
+        let Seen::At(p, q) = t.seen else {
             return run;
         };
         let o = Operation { act, rates, p, q };
@@ -192,22 +159,14 @@ fn run_targets(line: &[u8], l: Line, act: Act, store: &mut [u64], r: Run, wanted
 
 // ---- lines
 
-fn run_item(
-    line: &[u8],
-    stack: &mut [u64; STACK_WORDS],
-    store: &mut [u64],
-    r: Run,
-    wanted: Wanted,
-) -> Run
+fn run_item(line: &[u8], stack: &mut Stack, store: &mut [u64], r: Run, wanted: Wanted) -> Run
     requires { (r.pass.outcome ≡ Outcome.Going) × Known r.known (held r.header store.old) }
     ensures is { LineRan line.now (held r.header store.old) (held result.header store.new) result.pass.outcome }
     ensures known { Known result.known (held result.header store.new) }
 {
     let l = circuit::parse(line);
-    let item = l.item;
-    let totals = r.totals;
-    let made = totals.calls;
-    match item {
+    let made = r.totals.calls;
+    match l.item {
         Item::Nothing => r,
         Item::Bad(fault) => ended(r, Outcome::Bad(fault), l.from, l.to),
         Item::Call(act) => run_targets(line, l, act, store, r, wanted),
@@ -219,22 +178,17 @@ fn run_item(
 }
 
 // What the window has found.
-fn run_found(
-    bytes: &[u8],
-    stack: &mut [u64; STACK_WORDS],
-    store: &mut [u64],
-    r: Run,
-    wanted: Wanted,
-) -> Run
+fn run_found(bytes: &[u8], stack: &mut Stack, store: &mut [u64], r: Run, wanted: Wanted) -> Run
     requires { (r.pass.window.from ≤ r.pass.window.to) × (r.pass.window.to ≤ length bytes.now) × (r.pass.outcome ≡ Outcome.Going) × Known r.known (held r.header store.old) }
     ensures is { Turn LineRan r.pass.window.found (take (r.pass.window.to - r.pass.window.from) (drop r.pass.window.from bytes.now)) (held r.header store.old) (held result.header store.new) result.pass.outcome }
     ensures known { Known result.known (held result.header store.new) }
 {
-    let pass = r.pass;
-    let window = pass.window;
-    let found = window.found;
-    let from = window.from;
-    let to = window.to;
+    let Window {
+        found,
+        from,
+        to,
+        ..
+    } = r.pass.window;
     match found {
         Found::Line => run_item(&bytes[from..to], stack, store, r, wanted),
         Found::End => ended(r, Outcome::Done, 0, 0),
@@ -248,7 +202,7 @@ fn run_found(
 fn run_line(
     s: &Source,
     bytes: &mut [u8],
-    stack: &mut [u64; STACK_WORDS],
+    stack: &mut Stack,
     store: &mut [u64],
     r: Run,
     wanted: Wanted,
@@ -257,9 +211,8 @@ fn run_line(
     ensures is { Next LineRan (held r.header store.old) (held result.header store.new) result.pass.outcome }
     ensures known { Known result.known (held result.header store.new) }
 {
-    let before = r.pass;
-    let window = input::next_line(s, bytes, before.window);
-    let next = with_pass(r, passes::moved(before, window));
+    let window = input::next_line(s, bytes, r.pass.window);
+    let next = with_pass(r, passes::moved(r.pass, window));
     run_found(bytes, stack, store, next, wanted)
 }
 
@@ -287,7 +240,7 @@ fn start(header: Header, known: bool) -> Run
 pub fn run_all(
     s: &Source,
     bytes: &mut [u8],
-    stack: &mut [u64; STACK_WORDS],
+    stack: &mut Stack,
     store: &mut [u64],
     header: Header,
     known: bool,
@@ -297,13 +250,11 @@ pub fn run_all(
     ensures { Passed LineRan (held header store.old) (held result.header store.new) result.pass.outcome }
 {
     let mut r = start(header, known);
-    let mut turns = u64::MAX;
-    while turns > 0 {
+    for _ in 0..u64::MAX {
         r = run_line(s, bytes, stack, store, r, wanted);
         if !passes::is_going(r.pass) {
             return r;
         }
-        turns -= 1;
     }
     r
 }

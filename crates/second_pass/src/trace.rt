@@ -15,25 +15,18 @@ pub fn write_head() -> bool {
 fn put_tag(row: &mut [u8; 256], at: usize, act: Act) -> usize {
     match act {
         Act::ResetLoss => printing::put(row, at, b"[reset_loss]"),
-        Act::Channel(channel) => match channel {
-            Channel::Loss(_) => printing::put(row, at, b"[loss]"),
-            _ => at,
-        },
+        Act::Channel(Channel::Loss(_)) => printing::put(row, at, b"[loss]"),
         _ => at,
     }
 }
 
 // The instruction as the line has it, with its tag.
 pub fn put_name(row: &mut [u8; 256], at: usize, line: &[u8], l: Line, act: Act) -> usize {
-    let from = l.from;
-    let to = l.to;
-    if from <= to {
-        if to <= line.len() {
-            let end = printing::put(row, at, &line[from..to]);
-            return put_tag(row, end, act);
-        }
-    }
-    at
+    let Some(name) = line.get(l.from..l.to) else {
+        return at;
+    };
+    let end = printing::put(row, at, name);
+    put_tag(row, end, act)
 }
 
 // One qubit, or two with a comma between them.
@@ -58,24 +51,18 @@ fn put_counts(row: &mut [u8; 256], from: usize, a: Answer) -> usize {
 
 // The line of a call. Whether it was written.
 fn write(number: u64, line: &[u8], l: Line, o: Operation, a: Answer) -> bool {
-    let act = o.act;
-    let header = a.header;
-    let lost = a.lost;
     let mut row = printing::row();
     let name = printing::put_number(&mut row, 0, number, 6);
-    let qubits = printing::after(name, put_name(&mut row, name, line, l, act), 16);
+    let qubits = printing::after(name, put_name(&mut row, name, line, l, o.act), 16);
     let counts = printing::after(qubits, put_qubits(&mut row, qubits, o.p, o.q), 6);
     let entries = put_counts(&mut row, counts, a);
-    let weights = printing::put_number(&mut row, entries, header.count as u64, 7);
-    let end = printing::put_float(&mut row, weights, lost.dropped);
-    let last = printing::put_float(&mut row, end, lost.truncated);
+    let weights = printing::put_number(&mut row, entries, a.header.count as u64, 7);
+    let end = printing::put_float(&mut row, weights, a.lost.dropped);
+    let last = printing::put_float(&mut row, end, a.lost.truncated);
     printing::write(STDOUT_FILENO, &mut row, last)
 }
 
 // .. if it is wanted.
 pub fn write_if(wanted: bool, number: u64, line: &[u8], l: Line, o: Operation, a: Answer) -> bool {
-    if wanted {
-        return write(number, line, l, o, a);
-    }
-    true
+    !wanted || write(number, line, l, o, a)
 }

@@ -3,7 +3,7 @@ use mathlib.Core.Path.{◌≡◌, refl, sym, ap, ◌∙◌}
 use mathlib.Core.List.{List, [], ◌∷◌, ◌++◌}
 use mathlib.Core.Logic.{⊎_elim}
 use Prim.Native.Nat.{ℕ, zero, suc, ◌+◌, ◌≤◌, ◌<◌}
-use native.Mathlib.Nat.{eq-or-lt_of_le, le_refl, le_trans, le_of_suc-le-suc}
+use native.Mathlib.Nat.{eq-or-lt_of_le, le_trans, le_of_suc-le-suc}
 use native.Mathlib.Omega.{arith}
 use lib.Bits.{bit_xor}
 use lib.ListN.{length, get_or, set, length-set, length-append, get_or-append}
@@ -26,36 +26,6 @@ pub given : (l : List ℕ) (i d e : ℕ) → i < length l → get_or l i d ≡ g
 given [] i d e h = absurd (omega arith)
 given (x ∷ l) zero d e h = refl
 given (x ∷ l) (suc i) d e h = given l i d e (le_of_suc-le-suc h)
-
-pub not-given : (l : List ℕ) (i d : ℕ) → length l ≤ i → get_or l i d ≡ d
-not-given [] i d h = refl
-not-given (x ∷ l) zero d h = absurd (omega arith)
-not-given (x ∷ l) (suc i) d h = not-given l i d (le_of_suc-le-suc h)
-
--- ---- the table
-
--- a lower place raises none
-set-lower : (l : List ℕ) (slot i j : ℕ) → i ≤ get_or l slot 0 → get_or (set l slot i) j 0 ≤ get_or l j 0
-set-lower [] zero i j h = le_refl _
-set-lower [] (suc slot) i j h = le_refl _
-set-lower (x ∷ l) zero i zero h = h
-set-lower (x ∷ l) zero i (suc j) h = le_refl _
-set-lower (x ∷ l) (suc slot) i zero h = le_refl _
-set-lower (x ∷ l) (suc slot) i (suc j) h = set-lower l slot i j h
-
-module _ (slot i : ℕ) (l : List ℕ) (long : length l ≡ 4096) where
-  -- a place that is no lower is left
-  pub left : get_or l slot 0 ≤ i → Lowered slot i l l
-  left h = record { long = long; here = h; others = λ j. le_refl (get_or l j 0) }
-
-  pub lowered : slot < 4096 → i < get_or l slot 0 → Lowered slot i l (set l slot i)
-  lowered b h =
-      let same : get_or (set l slot i) slot 0 ≡ i = get_or-set_same l slot i 0 (omega arith) in
-      record {
-        long = length-set l slot i ∙ long;
-        here = omega arith;
-        others = λ j. set-lower l slot i j (omega arith);
-      }
 
 -- ---- the keys
 

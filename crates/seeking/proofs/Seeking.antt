@@ -1,4 +1,5 @@
 -- A walk that begins where the table says: no entry before that place has the key. Assumes nothing.
+use Rattle.std.specs.Prelude.{None}
 use mathlib.Core.Path.{◌≡◌, sym, ◌∙◌}
 use mathlib.Core.List.{List}
 use Prim.Native.Nat.{ℕ, zero, suc, ◌≤◌, ◌<◌}
@@ -9,7 +10,6 @@ use lib.ListN.{length, get_or}
 use Rattle.model.specs.Entries.{Keyed}
 use Rattle.model.specs.Keys.{stored_key}
 use Rattle.model.specs.declared.Size.{Size}
-use Rattle.model.specs.declared.Found.TheVariants.{Nothing}
 use Rattle.seeking.specs.Noted.{gathered, slot_of, Noted}
 use Rattle.seeking.specs.Walk.{Searched, Walking}
 use Rattle.seeking.proofs.Walk.{start, ended, other_key}
@@ -37,5 +37,5 @@ module _ (s : Size) (threshold : Float) (b : Keyed) (count : ℕ) (at : ℕ → 
     begins h = skipped (get_or firsts (slot_of key) 0) (omega arith) (λ j l. none_before j (omega arith) l)
 
     -- or is over
-    pub nowhere : count ≤ get_or firsts (slot_of key) 0 → Searched s threshold b es (record { found = Nothing; compared = 0 })
+    pub nowhere : count ≤ get_or firsts (slot_of key) 0 → Searched s threshold b es (record { found = None; compared = 0 })
     nowhere h = ended s threshold b es 0 count (skipped count (omega arith) (λ j l. none_before j l (omega arith))) (omega (arith, length-gathered count at))

@@ -1,4 +1,5 @@
 -- One step of the walk over stored keys. From place i on, the rest of the walk gives what is left of the whole walk's answer. Assumes nothing.
+use Rattle.std.specs.Prelude.{Some, None}
 use mathlib.Core.Path.{◌≡◌, refl, ◌∙◌, sym}
 use mathlib.Core.Bool.{Bool, true, false, cond}
 use mathlib.Core.List.{List, [], ◌∷◌}
@@ -16,7 +17,6 @@ use Rattle.model.specs.Keys.{stored_key}
 use Rattle.model.specs.Likeness.{alike}
 use Rattle.model.specs.Store.{Walked, walk}
 use Rattle.model.specs.declared.Size.{Size}
-use Rattle.model.specs.declared.Found.TheVariants.{At, Nothing}
 use Rattle.seeking.specs.Walk.{Searched, Walking}
 
 -- ---- the walk over any list
@@ -25,18 +25,18 @@ use Rattle.seeking.specs.Walk.{Searched, Walking}
 abbrev steps : Bool → Bool → ℕ → Walked → Walked
 steps key like i later =
     cond key
-    (cond like (record { found = At i; tested = i ∷ [] }) (record { found = later.found; tested = i ∷ later.tested }))
+    (cond like (record { found = Some i; tested = i ∷ [] }) (record { found = later.found; tested = i ∷ later.tested }))
     later
 
 module _ (s : Size) (threshold : Float) (b : Keyed) where
   -- what is found is a place that was walked over
-  pub found_below : (i : ℕ) (es : List Keyed) (p : ℕ) → (walk s threshold b i es).found ≡ At p → p < i + length es
+  pub found_below : (i : ℕ) (es : List Keyed) (p : ℕ) → (walk s threshold b i es).found ≡ Some p → p < i + length es
   unfolding walk
   found_below i [] p h = let z : ◌≡◌ {A = ℕ} 0 1 = cc in absurd (omega arith)
   found_below i (e ∷ es) p h =
       go (eqb (stored_key e) (stored_key b)) (alike s threshold e.entry.body b.entry.body) (walk s threshold b (suc i) es) (found_below (suc i) es p) h
     where
-      go : (key like : Bool) (later : Walked) → (later.found ≡ At p → p < suc i + length es) → (steps key like i later).found ≡ At p → p < i + suc (length es)
+      go : (key like : Bool) (later : Walked) → (later.found ≡ Some p → p < suc i + length es) → (steps key like i later).found ≡ Some p → p < i + suc (length es)
       go true true later r q = let e : i ≡ p = cc in omega arith
       go true false later r q = omega (arith, r q)
       go false like later r q = omega (arith, r q)
@@ -61,7 +61,7 @@ module _ (s : Size) (threshold : Float) (b : Keyed) (es : List Keyed) where
 
   module _ (compared i : ℕ) (h : Walking s threshold b es compared i) where
     -- at the end nothing is left
-    pub ended : length es ≤ i → Searched s threshold b es (record { found = Nothing; compared = compared })
+    pub ended : length es ≤ i → Searched s threshold b es (record { found = None; compared = compared })
     unfolding walk
     ended l =
         let none : drop i es ≡ [] = drop_of_length-le es {i = i} l in
@@ -98,5 +98,5 @@ module _ (s : Size) (threshold : Float) (b : Keyed) (es : List Keyed) where
             }
 
         -- the first entry with the key that is alike ends the walk
-        pub hit : alike s threshold e.entry.body b.entry.body ≡ true → Searched s threshold b es (record { found = At i; compared = compared + 1 })
+        pub hit : alike s threshold e.entry.body b.entry.body ≡ true → Searched s threshold b es (record { found = Some i; compared = compared + 1 })
         hit f = record { found = rw (step, eq-eqb _ _ k, f) at h.same; tested = rw (step, eq-eqb _ _ k, f) at h.counted }

@@ -18,7 +18,7 @@ ghost use Rattle.seeking.specs.Parts.{flips_from};
 ghost use Rattle.seeking.specs.Walk.{sought_in, Consistent, Searched, Walking};
 
 use changes::Change;
-use model::{BranchMutation, Found, Size};
+use model::{BranchMutation, Size};
 
 // ---- what is looked for, and what is found
 
@@ -34,7 +34,7 @@ pub struct Sought {
 // What a search finds, and how many full comparisons it made.
 #[derive(Clone, Copy)]
 pub struct Search {
-    pub found: Found,
+    pub found: Option<usize>,
     pub compared: usize,
 }
 
@@ -44,10 +44,7 @@ pub struct Search {
 pub fn place_of(places: &[usize], i: usize) -> usize
     ensures { result ≡ get_or places.now i i }
 {
-    if i < places.len() {
-        return places[i];
-    }
-    i
+    places.get(i).copied().unwrap_or(i)
 }
 
 // Its words.
@@ -72,14 +69,7 @@ pub fn first_place(firsts: &[u8; 4096], key: u64) -> usize
     requires { length firsts.now ≡ 4096 }
     ensures { result ≡ get_or firsts.now (slot_of key) 0 }
 {
-    let at = slot(key);
-    wide(firsts[at])
-}
-
-fn wide(place: u8) -> usize
-    ensures { result ≡ place }
-{
-    place as usize
+    usize::from(firsts[slot(key)])
 }
 
 // The key of the entry at place i.
@@ -107,52 +97,39 @@ pub fn note_all(
     requires { Within size × (count ≤ 256) × SeenIn size count places.now store.now × (length keys.old ≡ 256) × (length firsts.old ≡ 4096) }
     ensures { Noted count (seen_at size places.now store.now) keys.new firsts.new }
 {
-    let mut i = 0;
-    while i < count {
+    for i in 0..count {
         let e = entry_at(store, places, size, i);
         note(keys, firsts, i, e[2] ^ e[3]);
-        i += 1;
     }
 }
 
 // ---- the search
 
-// Rows that are compared at a time: 64, or those that are left.
-fn few_of(left: usize) -> usize
-    ensures { result ≡ min left 64 }
-{
-    if left < 64 {
-        return left;
-    }
-    64
-}
-
 // The bits of the rows from r on that the change flips, where r is 0 or 64.
 fn flips_from(c: Change, r: usize) -> u64
     ensures { result ≡ flips_from c r }
 {
-    if r == 0 {
-        return c.low;
-    }
-    c.high
+    if r == 0 { c.low } else { c.high }
 }
 
-// The rows of e are the parent's, with the phases that the change leaves. The first part that differs ends the comparison.
+// The rows of e are the parent's, with the phases that the change leaves: 64 rows are compared at a time, or those that are left. The first
+// part that differs ends the comparison.
 fn rows_same(e: &[u64], parent: &[u64], size: Size, c: Change) -> bool
     requires { Within size × (length e.now ≡ entry_len size) × (length parent.now ≡ entry_len size) }
     ensures { (m : BranchMutation) → c ≡ change_of usual_salts size.n m (entry_of size parent.now).entry.body.rows → result ≡ same_rows size (entry_of size e.now).entry.body (changed_body size.n m (entry_of size parent.now).entry.body) }
 {
+    let rows = 2 * size.n;
     let mut r = 0;
-    while r < 2 * size.n {
-        let many = few_of(2 * size.n - r);
+    // (`step_by` was tried: at 64 qubits merging took a twentieth more time.)
+    while r < rows {
+        let many = (rows - r).min(64);
         let flips = flips_from(c, r);
         let at = 5 + 3 * size.k + 3 * r;
         let end = at + 3 * many;
-        if branch::same_part(&e[at..end], &parent[at..end], many, flips) {
-            r += many;
-        } else {
+        if !branch::same_part(&e[at..end], &parent[at..end], many, flips) {
             return false;
         }
+        r += many;
     }
     true
 }
@@ -168,11 +145,8 @@ fn coefficients_near(e: &[u64], parent: &[u64], size: Size, threshold: f64) -> b
     let parent_coefs = &parent[5..rows];
     let count = e[4] as usize;
     let limit = threshold * threshold;
-    let mut j = likeness::near_unread(coefs, parent_coefs, count, limit);
-    while j < count {
-        if likeness::near_at(coefs, parent_coefs, count, j, limit) {
-            j += 1;
-        } else {
+    for j in likeness::near_unread(coefs, parent_coefs, count, limit)..count {
+        if !likeness::near_at(coefs, parent_coefs, count, j, limit) {
             return false;
         }
     }
@@ -193,16 +167,10 @@ fn alike_changed(
     requires parent_bound { ((entry_of size parent.now).entry.body.count ≤ size.k) × QubitsBelow 64 m × (c ≡ change_of usual_salts size.n m (entry_of size parent.now).entry.body.rows) }
     ensures { result ≡ alike size threshold (entry_of size e.now).entry.body (changed_body size.n m (entry_of size parent.now).entry.body) }
 {
-    if e[1] != branch::loss_after(m, parent[1]) {
-        return false;
-    }
-    if e[4] != parent[4] {
-        return false;
-    }
-    if rows_same(e, parent, size, c) {
-        return coefficients_near(e, parent, size, threshold);
-    }
-    false
+    e[1] == branch::loss_after(m, parent[1])
+        && e[4] == parent[4]
+        && rows_same(e, parent, size, c)
+        && coefficients_near(e, parent, size, threshold)
 }
 
 // The walk from place `first` on, where no entry before that has the key: the first of the `count` entries that has it and is alike
@@ -227,9 +195,10 @@ fn walk_from(
     let parent = entries::entry(store, size, sought.origin);
     let mut compared = 0;
     let mut i = first;
+    // The search is held to this form: a loop over the keys, left by its label, that yields the place.
     let found = 'keys: loop {
         if count <= i {
-            break 'keys Found::Nothing;
+            break 'keys None;
         }
         let place = i;
         i += 1;
@@ -239,7 +208,7 @@ fn walk_from(
         compared += 1;
         let e = entry_at(store, places, size, place);
         if alike_changed(e, parent, size, threshold, m, c) {
-            break 'keys Found::At(place);
+            break 'keys Some(place);
         }
     };
     Search { found, compared }
@@ -263,7 +232,7 @@ pub fn seek(
     let first = first_place(firsts, sought.key);
     if count <= first {
         return Search {
-            found: Found::Nothing,
+            found: None,
             compared: 0,
         };
     }
@@ -283,8 +252,7 @@ pub fn note_listed(
     requires { Packed size count store.now × (length keys.old ≡ 256) × (length firsts.old ≡ 4096) }
     ensures { Noted count (seen_at size [] store.now) keys.new firsts.new }
 {
-    let own = [0usize; 1];
-    note_all(keys, firsts, store, &own[..0], size, count);
+    note_all(keys, firsts, store, &[], size, count);
 }
 
 // The search among them.
@@ -301,15 +269,5 @@ pub fn seek_listed(
     requires consistent { Consistent size store.now sought }
     ensures { Searched size threshold (sought_in size store.now sought) (listed size count store.now) result }
 {
-    let own = [0usize; 1];
-    seek(
-        store,
-        &own[..0],
-        keys,
-        firsts,
-        size,
-        count,
-        threshold,
-        sought,
-    )
+    seek(store, &[], keys, firsts, size, count, threshold, sought)
 }

@@ -20,16 +20,15 @@ pub fn put_number(out: &mut [u8], v: u64)
     requires { 1 ≤ length out.old }
     ensures { out.new ≡ justified (length out.old) v }
 {
-    let mut i = out.len() - 1;
-    out[i] = (48 + v % 10) as u8;
+    let last = out.len() - 1;
+    out[last] = (48 + v % 10) as u8;
     let mut rest = v / 10;
-    while 0 < i {
-        i -= 1;
+    for i in (0..last).rev() {
         if rest == 0 {
-            out[i] = 32;
+            out[i] = b' ';
         } else {
             out[i] = (48 + rest % 10) as u8;
-            rest = rest / 10;
+            rest /= 10;
         }
     }
 }
@@ -39,15 +38,11 @@ pub fn put_line(out: &mut [u8], fields: &[u64])
     requires { length out.old ≡ line_len (length fields.now) }
     ensures { out.new ≡ line fields.now }
 {
-    let mut at = 0;
-    let mut j = 0;
-    while j < fields.len() {
-        let end = at + 21;
-        put_number(&mut out[at..end], fields[j]);
-        at = end;
-        j += 1;
+    for (j, field) in fields.iter().enumerate() {
+        let at = 21 * j;
+        put_number(&mut out[at..at + 21], *field);
     }
-    out[at] = 10;
+    out[21 * fields.len()] = b'\n';
 }
 
 // m lines of three numbers each.
@@ -55,13 +50,9 @@ pub fn put_lines(out: &mut [u8], words: &[u64], m: usize)
     requires { (length out.old ≡ m * line_len 3) × (3 * m ≤ length words.now) }
     ensures { out.new ≡ joined (map line (groups 3 m words.now)) }
 {
-    let mut at = 0;
-    let mut i = 0;
-    while i < m {
-        let end = at + 64;
-        put_line(&mut out[at..end], words::stretch(words, 3, i));
-        at = end;
-        i += 1;
+    for i in 0..m {
+        let at = 64 * i;
+        put_line(&mut out[at..at + 64], words::stretch(words, 3, i));
     }
 }
 
@@ -72,8 +63,7 @@ pub fn entry_text_len(size: Size, count: u64) -> usize
     requires { Within size × (count ≤ size.k) }
     ensures { result ≡ (1 + count + 2 * size.n) * line_len 3 }
 {
-    let n = size.n;
-    (1 + count as usize + 2 * n) * 64
+    (1 + count as usize + 2 * size.n) * 64
 }
 
 // An entry's own line: its weight bits, its loss word, its coefficient count.
@@ -92,10 +82,9 @@ fn put_body(out: &mut [u8], e: &[u64], size: Size, count: usize)
     ensures { out.new ≡ joined (map line (groups 3 count (take (coefs_len size) (drop head_len e.now)))) ++ joined (map line (groups 3 (2 * size.n) (drop (head_len + coefs_len size) e.now))) }
 {
     let rows = 5 + 3 * size.k;
-    let m = 2 * size.n;
     let end = 64 * count;
     put_lines(&mut out[0..end], &e[5..rows], count);
-    put_lines(&mut out[end..], &e[rows..], m);
+    put_lines(&mut out[end..], &e[rows..], 2 * size.n);
 }
 
 // An entry's lines.
@@ -115,14 +104,12 @@ pub fn entries_text_len(store: &[u64], size: Size, count: usize) -> usize
     ensures { (result ≡ length (entries_text size.n (map strip (listed size count store.now)))) × (result ≤ 256 * 12352) }
 {
     let len = entries::entry_len(size);
-    let mut t = 0;
-    let mut i = 0;
-    while i < count {
+    let mut bytes = 0;
+    for i in 0..count {
         let e = words::stretch(store, len, i);
-        t = t + entry_text_len(size, e[4]);
-        i += 1;
+        bytes += entry_text_len(size, e[4]);
     }
-    t
+    bytes
 }
 
 // The lines of all listed entries.
@@ -133,13 +120,11 @@ pub fn put_entries(out: &mut [u8], store: &[u64], size: Size, count: usize)
 {
     let len = entries::entry_len(size);
     let mut at = 0;
-    let mut i = 0;
-    while i < count {
+    for i in 0..count {
         let e = words::stretch(store, len, i);
         let end = at + entry_text_len(size, e[4]);
         put_entry(&mut out[at..end], e, size);
         at = end;
-        i += 1;
     }
 }
 

@@ -94,10 +94,6 @@ made-here s h w {t} e p = record { low = omega (arith, e); tables = subst (λ (k
 pub up-to-next : {s : Size} {h : Shape} {w : List ℕ} {t : Tables} {i : ℕ} → TablesUpTo s h i w t → TablesUpTo s h (i + 1) w t
 up-to-next t = record { low = omega (arith, t.low); tables = t.tables }
 
--- an entry before one that lies in the store
-pub lies-before : {place i : ℕ} (s : Size) (w : List ℕ) → place ≤ i → i * entry_len s + entry_len s ≤ length w → place * entry_len s + entry_len s ≤ length w
-lies-before {place} {i} s w h l = omega (arith, stride-le (entry_len s) place (i + 1) (omega arith), l)
-
 -- a listed entry lies in the store
 pub inside : (s : Size) (count i : ℕ) (w : List ℕ) → Packed s count w → i < count → i * entry_len s + entry_len s ≤ length w
 inside s count i w g h = omega (arith, stride-le (entry_len s) i count h, within s count w g)

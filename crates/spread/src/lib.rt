@@ -88,9 +88,10 @@ fn tables_at(
     ensures { TablesUpTo size shape i store.now result × TablesOf size shape (entry_of size (stretch size store.now i)) result }
 {
     if same_at(store, size, shape, tables.place, i) {
-        return tables;
+        tables
+    } else {
+        tables_of(store, masks, size, shape, i)
     }
-    tables_of(store, masks, size, shape, i)
 }
 
 // ---- parents
@@ -111,23 +112,16 @@ fn merge_arms(
     ensures { Went limits.size limits.threshold limits.cutoff (branches_below limits.size limits.threshold arms arms.count (parent_at limits.size store.old parent.place parent.weight)) p store.old result store.new × Noted result.count (seen_at limits.size [] store.new) keys.new firsts.new }
 {
     let weight = words::float_of(parent.weight);
-    let rates = arms.rates;
-    let count = arms.count;
-    let first = tables.first;
-    let second = tables.second;
     let mut q = p;
-    let mut a = 0;
-    while a < count {
-        let shape = arms.shape;
+    for a in 0..arms.count {
         let branch = Branch {
             parent: parent.place,
-            shape,
+            shape: arms.shape,
             arm: a,
-            weight: words::bits_of(weight * rates[a]),
-            change: changes::change_at(&first, &second, a),
+            weight: words::bits_of(weight * arms.rates[a]),
+            change: changes::change_at(&tables.first, &tables.second, a),
         };
         q = merging::merge_changed(store, keys, firsts, limits, branch, q);
-        a += 1;
     }
     q
 }
@@ -138,8 +132,7 @@ pub fn is_live(shape: Shape, loss: u64) -> bool
     ensures { result ≡ live_at shape loss }
 {
     match shape {
-        Shape::One(q) => entries::is_live(loss, q),
-        Shape::Lose(q) => entries::is_live(loss, q),
+        Shape::One(q) | Shape::Lose(q) => entries::is_live(loss, q),
         Shape::Two(p, q) => entries::both_live(loss, p, q),
     }
 }
@@ -160,12 +153,10 @@ pub fn scale_parents(store: &mut [u64], size: Size, count: usize, shape: Shape, 
     ensures { Packed size count store.new × (listed size count store.new ≡ map (scaled_by shape keep) (listed size count store.old)) }
 {
     let len = entries::entry_len(size);
-    let mut i = 0;
-    while i < count {
+    for i in 0..count {
         let at = i * len;
         let end = at + len;
         scale_entry(&mut store[at..end], size, shape, keep);
-        i += 1;
     }
 }
 
@@ -188,14 +179,13 @@ pub fn merge_parents(
     let shape = arms.shape;
     let len = entries::entry_len(size);
     let masks = changes::sign_masks(keys::usual_salts(), changes::walked_rows(shape, size.n));
-    let mut last = tables_of(&store[..], &masks, size, shape, 0);
+    let mut last = tables_of(store, &masks, size, shape, 0);
     let mut before = last;
     let mut q = merging::start(count);
-    let mut i = 0;
-    while i < count {
+    for i in 0..count {
         if is_live(shape, store[i * len + 1]) {
-            if !same_at(&store[..], size, shape, last.place, i) {
-                let found = tables_at(&store[..], &masks, size, shape, before, i);
+            if !same_at(store, size, shape, last.place, i) {
+                let found = tables_at(store, &masks, size, shape, before, i);
                 before = last;
                 last = found;
             }
@@ -203,7 +193,6 @@ pub fn merge_parents(
             let parent = Parent { place: i, weight };
             q = merge_arms(store, keys, firsts, limits, arms, last, parent, q);
         }
-        i += 1;
     }
     q
 }

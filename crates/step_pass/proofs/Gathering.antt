@@ -1,44 +1,37 @@
 -- Laws of steps that are gathered, for the loop over targets and for lines; and the calls that trials make of them. Assumes nothing.
 use Prim.Native.Nat.{ℕ, zero, suc, ◌+◌, ◌<◌, ◌≤◌}
-use mathlib.Core.Path.{◌≡◌, refl, sym, ap, subst, ◌∙◌}
+use mathlib.Core.Path.{◌≡◌, refl, sym, ap, ap₂, subst, ◌∙◌}
 use mathlib.Core.Bool.{false}
 use mathlib.Core.List.{List, [], ◌∷◌, ◌++◌, map}
 use native.Mathlib.Omega.{arith}
-use denote.Enum.Declared.{tag_of}
-use types.Run.{OneOf, miss}
 use lib.Ieee.{Float}
 use lib.ListN.{length, take, set, length-map}
 use lib.Seq.{length-take-le, take_all, take-suc-set}
+use Rattle.std.proofs.lemmas.List.{map-set}
 use Rattle.model.specs.Channels.{one}
 use Rattle.model.specs.Calls.{Call, noise}
-use Rattle.model.specs.Trials.{max_steps, step_calls}
+use Rattle.model.specs.Trials.{max_steps, step_calls, plan_of}
+use Rattle.model.specs.declared.Size.{Size}
 use Rattle.model.specs.declared.Channel.{Channel}
 use Rattle.passes.specs.Going.{goes}
 use Rattle.passes.specs.Turns.{Stands}
 use Rattle.passes.specs.declared.Outcome.{Outcome}
-use Rattle.passes.specs.declared.Outcome.TheVariants as Outcome
 use Rattle.passes.proofs.Turns.{not_going}
 use Rattle.circuit.specs.Lines.{line_of}
 use Rattle.circuit.specs.Targets.{target_at}
 use Rattle.circuit.specs.declared.lines.Act.{Act}
-use Rattle.circuit.specs.declared.lines.Act.TheVariants as Act
 use Rattle.circuit.specs.declared.lines.Item.{Item}
 use Rattle.circuit.specs.declared.lines.Item.TheVariants.{Call as call}
 use Rattle.circuit.specs.declared.lines.Line.{Line}
 use Rattle.circuit.specs.declared.lines.Seen.TheVariants.{At}
 use Rattle.circuit.specs.declared.lines.Target.{Target}
-use Rattle.circuit.specs.contracts.lines.Act.{the_type}
 use Rattle.second_pass.specs.Lines.{calls_of, calls_for, line_calls}
 use Rattle.second_pass.proofs.Lines.{calls-end, calls-next, item-is, line-calls}
 use Rattle.step_pass.specs.declared.Step.{Step}
-use Rattle.step_pass.specs.Gathering.{step_call, Taken, all_taken, goes_on, too_many, Gathers, steps as all-steps, no_steps, other, LineGathers}
+use Rattle.step_pass.specs.declared.Gathered.{Gathered}
+use Rattle.step_pass.specs.Gathering.{step_call, steps_of, plan_on, Taken, all_taken, goes_on, too_many, Gathers, steps as all-steps, no_steps, other, LineGathers}
 
 -- ---- one step
-
-map-set : {X Y : Type 0} (f : X → Y) (l : List X) (i : ℕ) (v : X) → map f (set l i v) ≡ set (map f l) i (f v)
-map-set f [] i v = refl
-map-set f (x ∷ l) zero v = refl
-map-set {Y = Y} f (x ∷ l) (suc i) v = ap (λ (t : List Y). f x ∷ t) (map-set f l i v)
 
 -- the first `count` of 64, and one more
 module _ (steps : List Step) (count : ℕ) (long : length steps ≡ max_steps) where
@@ -105,11 +98,10 @@ module _ (act : Act) (rates : List Float) (text : List ℕ) (at : ℕ) {before a
   of-channel channel e {o = o} t = subst (λ (act : Act). Gathers (call act) (calls_of act rates text at) before after o) (sym e) (all-steps t)
 
   -- what a match leaves beside a channel
-  pub of-no-channel : OneOf (0 ∷ 1 ∷ 3 ∷ 4 ∷ 5 ∷ 6 ∷ []) (tag_of the_type act) → after ≡ before → {o : Outcome} → o ≡ Outcome.NoStep → Gathers (call act) (calls_of act rates text at) before after o
+  pub of-no-channel : ((channel : Channel) → act ≡ Act.Channel channel → ⊥) → after ≡ before → {o : Outcome} → o ≡ Outcome.NoStep → Gathers (call act) (calls_of act rates text at) before after o
   of-no-channel k same g =
       subst (Gathers (call act) (calls_of act rates text at) before after) (sym g)
-      (subst (λ (z : List Call). Gathers (call act) (calls_of act rates text at) before z Outcome.NoStep) (sym same)
-      (no_steps (λ c e. miss (0 ∷ 1 ∷ 3 ∷ 4 ∷ 5 ∷ 6 ∷ []) 2 tt (subst (OneOf (0 ∷ 1 ∷ 3 ∷ 4 ∷ 5 ∷ 6 ∷ [])) (ap (tag_of the_type) e) k))))
+      (subst (λ (z : List Call). Gathers (call act) (calls_of act rates text at) before z Outcome.NoStep) (sym same) (no_steps k))
 
 -- ---- lines
 
@@ -135,3 +127,11 @@ unfolding step_calls
 step-calls zero steps = refl
 step-calls (suc n) [] = refl
 step-calls (suc n) (s ∷ steps) = ap (λ (cs : List Call). step_call s ∷ cs) (step-calls n steps)
+
+-- .. and so the plan is that of the steps
+pub planned : (s : Size) (threshold : Float) (cutoffs : List Float) (g : Gathered) {channels : List Channel} {qubits : List ℕ}
+    → channels ≡ map (λ s. s.channel) g.steps → qubits ≡ map (λ s. s.qubit) g.steps → plan_of s threshold cutoffs channels qubits g.count ≡ plan_on s threshold cutoffs g
+unfolding steps_of
+planned s threshold cutoffs g e f =
+    ap (λ (cs : List Call). record { size = s; threshold = threshold; cutoffs = cutoffs; count = g.count; calls = cs })
+    (ap₂ (step_calls g.count) e f ∙ step-calls g.count g.steps)

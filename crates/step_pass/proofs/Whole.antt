@@ -6,7 +6,6 @@ use Rattle.model.specs.Calls.{Call}
 use Rattle.passes.specs.Going.{goes}
 use Rattle.passes.specs.Turns.{line, no_line, Passed, begun, then}
 use Rattle.passes.specs.declared.Outcome.{Outcome}
-use Rattle.passes.specs.declared.Outcome.TheVariants as Outcome
 use Rattle.passes.proofs.Turns.{not_going, other-outcome, stands-not-end, unread-ends}
 use Rattle.circuit.specs.declared.lines.Item.{Item}
 use Rattle.second_pass.specs.Lines.{line_calls, circuit_calls}

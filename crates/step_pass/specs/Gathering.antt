@@ -8,10 +8,8 @@ use Rattle.model.specs.declared.Size.{Size}
 use Rattle.model.specs.declared.Channel.{Channel}
 use Rattle.passes.specs.Turns.{Stands}
 use Rattle.passes.specs.declared.Outcome.{Outcome}
-use Rattle.passes.specs.declared.Outcome.TheVariants as Outcome
 use Rattle.circuit.specs.Lines.{line_of}
 use Rattle.circuit.specs.declared.lines.Act.{Act}
-use Rattle.circuit.specs.declared.lines.Act.TheVariants as Act
 use Rattle.circuit.specs.declared.lines.Item.{Item}
 use Rattle.circuit.specs.declared.lines.Item.TheVariants.{Call as call}
 use Rattle.second_pass.specs.Lines.{line_calls, circuit_calls}

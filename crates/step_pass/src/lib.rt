@@ -12,10 +12,10 @@ ghost use Rattle.passes.specs.Turns.{Turn, Next, Passed};
 ghost use Rattle.step_pass.specs.Gathering.{step_call, steps_of, Taken, Gathers, LineGathers, WholeSteps};
 
 use circuit::{Act, Item, Line, Seen};
-use input::{Found, Source};
+use input::{Found, Source, Window};
 use model::Channel;
 use passes::{Outcome, Pass};
-use second_pass::STACK_WORDS;
+use second_pass::Stack;
 pub use tried::try_cutoffs;
 
 // A step: its channel and its qubit; its line, and the instruction as the trace prints it, filled up with blanks.
@@ -27,7 +27,7 @@ pub struct Step {
     pub name: [u8; 16],
 }
 
-// The pass, and the steps so far: the first `count`.
+// The pass, and the steps so far: the first `count`, in fixed memory.
 #[derive(Clone, Copy)]
 pub struct Gathered {
     pub pass: Pass,
@@ -35,15 +35,11 @@ pub struct Gathered {
     pub steps: [Step; 64],
 }
 
+#[tactic(auto, unfolding(crate::specs::Gathering::steps_of))]
 fn with_pass(g: Gathered, pass: Pass) -> Gathered
     ensures { (result.pass ≡ pass) × (steps_of result ≡ steps_of g) }
 {
-    let steps = g.steps;
-    Gathered {
-        pass,
-        count: g.count,
-        steps,
-    }
+    Gathered { pass, ..g }
 }
 
 fn ended(g: Gathered, outcome: Outcome, from: usize, to: usize) -> Gathered
@@ -61,13 +57,12 @@ fn with_step(g: Gathered, step: Step, l: Line) -> Gathered
 {
     let count = g.count;
     if count < 64 {
-        let pass = g.pass;
         let mut steps = g.steps;
         steps[count] = step;
         return Gathered {
-            pass,
             count: count + 1,
             steps,
+            ..g
         };
     }
     ended(g, Outcome::TooManySteps, l.from, l.to)
@@ -78,11 +73,7 @@ fn name_of(line: &[u8], l: Line, channel: Channel) -> [u8; 16] {
     let mut row = printing::row();
     second_pass::put_name(&mut row, 0, line, l, Act::Channel(channel));
     let mut name = [b' '; 16];
-    let mut i: usize = 0;
-    while i < 16 {
-        name[i] = row[i];
-        i += 1;
-    }
+    name.copy_from_slice(&row[..16]);
     name
 }
 
@@ -91,20 +82,18 @@ fn gather_targets(line: &[u8], l: Line, channel: Channel, g: Gathered) -> Gather
     requires { g.pass.outcome ≡ Outcome.Going }
     ensures { Taken (calls_of (Act.Channel channel) l.rates line.now l.targets) (steps_of g) (steps_of result) result.pass.outcome }
 {
-    let pass = g.pass;
     let name = name_of(line, l, channel);
     let mut gathered = g;
     let mut at = l.targets;
     loop {
         let t = circuit::target(line, at, false);
-        let seen = t.seen;
-        let Seen::At(qubit, _) = seen else {
+        let Seen::At(qubit, _) = t.seen else {
             return gathered;
         };
         let step = Step {
             channel,
             qubit,
-            line: pass.line,
+            line: g.pass.line,
             name,
         };
         gathered = with_step(gathered, step, l);
@@ -128,14 +117,13 @@ fn gather_call(line: &[u8], l: Line, act: Act, g: Gathered) -> Gathered
 
 // ---- lines
 
-fn gather_item(line: &[u8], stack: &mut [u64; STACK_WORDS], g: Gathered) -> Gathered
+fn gather_item(line: &[u8], stack: &mut Stack, g: Gathered) -> Gathered
     requires { g.pass.outcome ≡ Outcome.Going }
     ensures { LineGathers line.now (steps_of g) (steps_of result) result.pass.outcome }
 {
     let l = circuit::parse(line);
-    let item = l.item;
     let made = g.count as u64;
-    match item {
+    match l.item {
         Item::Nothing => g,
         Item::Bad(fault) => ended(g, Outcome::Bad(fault), l.from, l.to),
         Item::Call(act) => gather_call(line, l, act, g),
@@ -150,15 +138,16 @@ fn gather_item(line: &[u8], stack: &mut [u64; STACK_WORDS], g: Gathered) -> Gath
 }
 
 // What the window has found.
-fn gather_found(bytes: &[u8], stack: &mut [u64; STACK_WORDS], g: Gathered) -> Gathered
+fn gather_found(bytes: &[u8], stack: &mut Stack, g: Gathered) -> Gathered
     requires { (g.pass.window.from ≤ g.pass.window.to) × (g.pass.window.to ≤ length bytes.now) × (g.pass.outcome ≡ Outcome.Going) }
     ensures { Turn LineGathers g.pass.window.found (take (g.pass.window.to - g.pass.window.from) (drop g.pass.window.from bytes.now)) (steps_of g) (steps_of result) result.pass.outcome }
 {
-    let pass = g.pass;
-    let window = pass.window;
-    let found = window.found;
-    let from = window.from;
-    let to = window.to;
+    let Window {
+        found,
+        from,
+        to,
+        ..
+    } = g.pass.window;
     match found {
         Found::Line => gather_item(&bytes[from..to], stack, g),
         Found::End => ended(g, Outcome::Done, 0, 0),
@@ -169,21 +158,16 @@ fn gather_found(bytes: &[u8], stack: &mut [u64; STACK_WORDS], g: Gathered) -> Ga
 }
 
 // The next line.
-fn gather_line(
-    s: &Source,
-    bytes: &mut [u8],
-    stack: &mut [u64; STACK_WORDS],
-    g: Gathered,
-) -> Gathered
+fn gather_line(s: &Source, bytes: &mut [u8], stack: &mut Stack, g: Gathered) -> Gathered
     ensures { Next LineGathers (steps_of g) (steps_of result) result.pass.outcome }
 {
-    let before = g.pass;
-    let window = input::next_line(s, bytes, before.window);
-    let next = with_pass(g, passes::moved(before, window));
+    let window = input::next_line(s, bytes, g.pass.window);
+    let next = with_pass(g, passes::moved(g.pass, window));
     gather_found(bytes, stack, next)
 }
 
 // No step yet.
+#[tactic(auto, unfolding(crate::specs::Gathering::steps_of))]
 fn start() -> Gathered
     ensures { (result.pass.outcome ≡ Outcome.Going) × (steps_of result ≡ []) }
 {
@@ -206,15 +190,13 @@ pub fn gather(s: &Source, bytes: &mut [u8]) -> Gathered
     ensures lines { Passed LineGathers [] (steps_of result) result.pass.outcome }
     ensures whole { result.pass.outcome ≡ Outcome.Done → WholeSteps (steps_of result) }
 {
-    let mut stack = [0u64; STACK_WORDS];
+    let mut stack = second_pass::stack();
     let mut g = start();
-    let mut turns = u64::MAX;
-    while turns > 0 {
+    for _ in 0..u64::MAX {
         g = gather_line(s, bytes, &mut stack, g);
         if !passes::is_going(g.pass) {
             return g;
         }
-        turns -= 1;
     }
     g
 }

@@ -10,13 +10,10 @@ use model::{Channel, Size};
 fn channels_of(steps: [Step; 64]) -> [Channel; 64]
     ensures { result ≡ map (λ s. s.channel) steps }
 {
+    // `steps.map(|s| s.channel)` was tried: its proof did not close.
     let mut channels = [Channel::Loss(0.0); 64];
-    let mut i: usize = 0;
-    while i < 64 {
-        let step = steps[i];
-        let channel = step.channel;
-        channels[i] = channel;
-        i += 1;
+    for i in 0..64 {
+        channels[i] = steps[i].channel;
     }
     channels
 }
@@ -24,12 +21,10 @@ fn channels_of(steps: [Step; 64]) -> [Channel; 64]
 fn qubits_of(steps: [Step; 64]) -> [usize; 64]
     ensures { result ≡ map (λ s. s.qubit) steps }
 {
-    let mut qubits: [usize; 64] = [0; 64];
-    let mut i: usize = 0;
-    while i < 64 {
-        let step = steps[i];
-        qubits[i] = step.qubit;
-        i += 1;
+    // `steps.map(|s| s.qubit)` was tried: its proof did not close.
+    let mut qubits = [0; 64];
+    for i in 0..64 {
+        qubits[i] = steps[i].qubit;
     }
     qubits
 }
@@ -46,13 +41,12 @@ pub fn try_cutoffs(
     ensures number { result ≡ (tried (plan_on size threshold cutoffs.now g) (length out.old) store.old).answer.number }
     ensures shown { out.new ≡ overlaid (tried (plan_on size threshold cutoffs.now g) (length out.old) store.old).output out.old }
 {
-    let steps = g.steps;
     let a = trials::try_cutoffs(
         size,
         threshold,
         cutoffs,
-        channels_of(steps),
-        qubits_of(steps),
+        channels_of(g.steps),
+        qubits_of(g.steps),
         g.count,
         store,
         out,

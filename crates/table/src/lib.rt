@@ -40,11 +40,7 @@ fn insert(part: &mut [u64], m: usize, place: u64, weight: u64)
     ensures { pairs (m + 1) part.new ≡ Table.insert (pair place weight) (pairs m (drop 2 part.old)) }
 {
     let end = 2 * count_above(&part[2..], m, weight);
-    let mut j = 0;
-    while j < end {
-        part[j] = part[j + 2];
-        j += 1;
-    }
+    part.copy_within(2..end + 2, 0);
     part[end] = place;
     part[end + 1] = weight;
 }
@@ -55,9 +51,7 @@ fn put_order(out: &mut [u64], store: &[u64], size: Size, count: usize)
     ensures { pairs count out.new ≡ Table.table_order (map strip (listed size count store.now)) }
 {
     let len = entries::entry_len(size);
-    let mut i = count;
-    while 0 < i {
-        i -= 1;
+    for i in (0..count).rev() {
         let at = 2 * i;
         insert(&mut out[at..], count - 1 - i, i as u64, store[i * len]);
     }
@@ -71,12 +65,10 @@ fn put_totals(out: &mut [u64], m: usize)
     ensures { out.new ≡ Table.table_from (float zero_bits) (pairs m out.old) }
 {
     let mut total = 0.0;
-    let mut i = 0;
-    while i < m {
+    for i in 0..m {
         let at = 2 * i + 1;
         total = total + words::float_of(out[at]);
         out[at] = words::bits_of(total);
-        i += 1;
     }
 }
 
@@ -126,10 +118,7 @@ pub fn table_known(h: Header, store: &[u64], out: &mut [u64], known: bool) -> An
 fn draw_sound(draw: f64) -> bool
     ensures { result ≡ draw_sound draw }
 {
-    if 0.0 <= draw {
-        return draw < 1.0;
-    }
-    false
+    0.0 <= draw && draw < 1.0
 }
 
 // The place of the first of m pairs whose total is above the draw, else of the last.
@@ -139,8 +128,7 @@ fn pick_from(order: &[u64], m: usize, draw: f64) -> u64
 {
     let mut total = 0.0;
     let mut last = 0;
-    let mut i = 0;
-    while i < m {
+    for i in 0..m {
         let at = 2 * i;
         let place = order[at];
         total = total + words::float_of(order[at + 1]);
@@ -148,7 +136,6 @@ fn pick_from(order: &[u64], m: usize, draw: f64) -> u64
             return place;
         }
         last = place;
-        i += 1;
     }
     last
 }
@@ -168,8 +155,7 @@ fn pick_place(store: &[u64], size: Size, count: usize, draw: f64) -> u64
     ensures { result ≡ Table.pick_place draw (map strip (listed size count store.now)) }
 {
     let mut order = [0u64; 512];
-    let end = 2 * count;
-    pick_in(&mut order[0..end], store, size, count, draw)
+    pick_in(&mut order[0..2 * count], store, size, count, draw)
 }
 
 // THE CALL: the list place of the first table entry whose total is above the draw, else of the last. 1, 2, 5, 9, 10.

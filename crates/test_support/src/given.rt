@@ -5,89 +5,65 @@ pub fn room() -> [u8; 524_288] {
     [0u8; 524_288]
 }
 
-// A number, and the place behind it.
-#[derive(Clone, Copy)]
-pub struct Number {
-    pub value: u64,
-    pub at: usize,
-}
+// What is left to read. Its numbers come one by one, modulo 2^64: each byte from '0' on counts as a digit, each below parts two numbers.
+#[derive(Drop)]
+pub struct Given<'a>(&'a [u8]);
 
-// The place of the next digit, or the end.
-pub fn skip(text: &[u8], at: usize) -> usize {
-    let mut i = at;
-    while i < text.len() {
-        if 48 <= text[i] {
-            return i;
+impl<'a> Given<'a> {
+    pub fn new(text: &'a [u8]) -> Self {
+        Given(text)
+    }
+
+    // The next item: its kind and its values, as many as there is room for, then zeros.
+    pub fn item<const N: usize>(&mut self) -> Option<[u64; N]> {
+        let kind = self.next()?;
+        let mut item = [0; N];
+        self.fill(kind, &mut item);
+        Some(item)
+    }
+
+    // So many calls, as far as there is room for their words: zeros where nothing is left.
+    pub fn calls(&mut self, count: usize, calls: &mut [u64]) {
+        for call in calls.chunks_exact_mut(crate::CALL_WORDS).take(count) {
+            let kind = self.number();
+            self.fill(kind, call);
         }
-        i += 1;
     }
-    i
-}
 
-fn wide(b: u8) -> u64 {
-    b as u64
-}
-
-// The number that begins at a place, modulo 2^64.
-fn read_number(text: &[u8], at: usize) -> Number {
-    let mut value: u64 = 0;
-    let mut i = at;
-    while i < text.len() {
-        let b = wide(text[i]);
-        if b < 48 {
-            return Number { value, at: i };
+    // An item of this kind, whose values are still to be read.
+    fn fill(&mut self, kind: u64, item: &mut [u64]) {
+        let count = self.number();
+        item.fill(0);
+        if let Some((first, values)) = item.split_first_mut() {
+            *first = kind;
+            for (value, _) in values.iter_mut().zip(0..count) {
+                *value = self.number();
+            }
         }
-        value = std::num::wrapping_add_u64(words::wrapping_mul(value, 10), b - 48);
-        i += 1;
     }
-    Number { value, at: i }
-}
 
-// The next number, if there is one more.
-fn next(text: &[u8], at: usize, more: bool) -> Number {
-    if more {
-        return read_number(text, skip(text, at));
-    }
-    Number { value: 0, at }
-}
-
-// The word at a place put to v, if there is such a place.
-pub fn put_word(words: &mut [u64], at: usize, v: u64) {
-    if at < words.len() {
-        words[at] = v;
+    // The next number, 0 where none is left.
+    fn number(&mut self) -> u64 {
+        self.next().unwrap_or(0)
     }
 }
 
-// The item at a place: its kind and its values, as many as there is room for, then zeros. The place behind it is the answer.
-pub fn read_item(text: &[u8], at: usize, item: &mut [u64]) -> usize {
-    let room = item.len();
-    let kind = next(text, at, true);
-    let count = next(text, kind.at, true);
-    let mut end = count.at;
-    let mut i: usize = 1;
-    put_word(item, 0, kind.value);
-    while i < room {
-        let v = next(text, end, i as u64 <= count.value);
-        put_word(item, i, v.value);
-        end = v.at;
-        i += 1;
-    }
-    end
-}
+impl<'a> Iterator for Given<'a> {
+    type Item = u64;
 
-// So many calls from a place on, as far as there is room for their words. The place behind them is the answer.
-pub fn read_calls(text: &[u8], from: usize, count: usize, calls: &mut [u64]) -> usize {
-    let mut at = from;
-    let mut start = 0;
-    let mut i: usize = 0;
-    while i < count {
-        if calls.len() - start < crate::CALL_WORDS {
-            return at;
-        }
-        let end = start + crate::CALL_WORDS;
-        at = read_item(text, at, &mut calls[start..end]);
-        start = end;
-        i += 1;
+    fn next(&mut self) -> Option<u64> {
+        let text = self.0;
+        let start = text.iter().position(|b| *b >= b'0')?;
+        let (_, text) = text.split_at(start);
+        let end = text.iter().position(|b| *b < b'0').unwrap_or(text.len());
+        let (digits, rest) = text.split_at(end);
+        self.0 = rest;
+        Some(
+            digits.iter().fold(0u64, |value, b| {
+                value
+                    .wrapping_mul(10)
+                    .wrapping_add(u64::from(b.wrapping_sub(b'0')))
+            }),
+        )
     }
-    at
 }

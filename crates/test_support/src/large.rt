@@ -17,34 +17,6 @@ fn weight_word(e: usize) -> u64 {
     0x3f50_0000_0000_0000 + output(100, e) / 0x1000
 }
 
-// From 0, for the first group, to as many as there can be.
-fn coefficient_count(group: usize) -> usize {
-    group % 16 * MAX_COEFFICIENTS / 15
-}
-
-// A float of size 0.5 to 1, of either sign; a little larger with the variant.
-fn part_word(r: u64, variant: usize) -> u64 {
-    let size = 0x3fe0_0000_0000_0000 + r / 0x1000;
-    let moved = std::num::wrapping_add_u64(size, variant as u64 % 16 * 0x1_0000_0000);
-    std::num::wrapping_add_u64(moved, r % 2 * 0x8000_0000_0000_0000)
-}
-
-// Word j of the coefficients: index, re, im by turns.
-fn coefficient_word(group: usize, variant: usize, j: usize) -> u64 {
-    let c = j / 3;
-    if coefficient_count(group) <= c {
-        return 0;
-    }
-    if j % 3 == 0 {
-        return (c % MAX_COEFFICIENTS) as u64 + variant as u64 / 8 % 2 * 1000;
-    }
-    part_word(output(group, j), variant)
-}
-
-fn row_output(group: usize, j: usize) -> u64 {
-    output(group, 1000 + j % 1000)
-}
-
 // A phase after a Pauli that flips it if the lowest bit is set, where that Pauli was applied.
 fn flipped(phase: u64, applied: usize, bit: u64) -> u64 {
     if applied % 2 == 1 && bit % 2 == 1 {
@@ -53,51 +25,85 @@ fn flipped(phase: u64, applied: usize, bit: u64) -> u64 {
     phase % 4
 }
 
-// The phase at word j of the rows; x and z stand before it. X flips it if z is set at qubit 0, Z if x is.
-fn phase_word(group: usize, variant: usize, j: usize) -> u64 {
-    if j < 2 {
-        return 0;
-    }
-    let x = row_output(group, j - 2);
-    let z = row_output(group, j - 1);
-    flipped(flipped(row_output(group, j), variant, z), variant / 2, x)
+#[derive(Clone, Copy)]
+struct Entry {
+    group: usize,
+    variant: usize,
 }
 
-// Word j of the rows: x, z, phase by turns.
-fn row_word(group: usize, variant: usize, j: usize) -> u64 {
-    if j % 3 == 2 {
-        return phase_word(group, variant, j);
+impl Entry {
+    // From 0, for the first group, to as many as there can be.
+    fn coefficient_count(self) -> usize {
+        self.group % 16 * MAX_COEFFICIENTS / 15
     }
-    row_output(group, j)
+
+    // A float of size 0.5 to 1, of either sign; a little larger with the variant.
+    fn part_word(self, r: u64) -> u64 {
+        let size = 0x3fe0_0000_0000_0000 + r / 0x1000;
+        let larger = size.wrapping_add(self.variant as u64 % 16 * 0x1_0000_0000);
+        larger.wrapping_add(r % 2 * 0x8000_0000_0000_0000)
+    }
+
+    // Word j of the coefficients: index, re, im by turns.
+    fn coefficient_word(self, j: usize) -> u64 {
+        let c = j / 3;
+        if self.coefficient_count() <= c {
+            return 0;
+        }
+        if j % 3 == 0 {
+            return (c % MAX_COEFFICIENTS) as u64 + self.variant as u64 / 8 % 2 * 1000;
+        }
+        self.part_word(output(self.group, j))
+    }
+
+    fn row_output(self, j: usize) -> u64 {
+        output(self.group, 1000 + j % 1000)
+    }
+
+    // The phase at word j of the rows; x and z stand before it. X flips it if z is set at qubit 0, Z if x is.
+    fn phase_word(self, j: usize) -> u64 {
+        if j < 2 {
+            return 0;
+        }
+        let x = self.row_output(j - 2);
+        let z = self.row_output(j - 1);
+        flipped(
+            flipped(self.row_output(j), self.variant, z),
+            self.variant / 2,
+            x,
+        )
+    }
+
+    // Word j of the rows: x, z, phase by turns.
+    fn row_word(self, j: usize) -> u64 {
+        if j % 3 == 2 {
+            return self.phase_word(j);
+        }
+        self.row_output(j)
+    }
 }
 
 // Word j of entry e. The keys are 0: the sum is dirty.
 fn large_word(e: usize, j: usize) -> u64 {
-    let group = e / 16;
-    let variant = e % 16;
-    if j == 0 {
-        return weight_word(e);
+    let entry = Entry {
+        group: e / 16,
+        variant: e % 16,
+    };
+    match j {
+        0 => weight_word(e),
+        1 => entry.variant as u64 / 4 % 2 * 8,
+        2 | 3 => 0,
+        4 => entry.coefficient_count() as u64,
+        _ if j < ROWS_AT => entry.coefficient_word(j - 5),
+        _ => entry.row_word(j - ROWS_AT),
     }
-    if j == 1 {
-        return variant as u64 / 4 % 2 * 8;
-    }
-    if j < 4 {
-        return 0;
-    }
-    if j == 4 {
-        return coefficient_count(group) as u64;
-    }
-    if j < ROWS_AT {
-        return coefficient_word(group, variant, j - 5);
-    }
-    row_word(group, variant, j - ROWS_AT)
 }
 
 // The words of that sum.
 pub fn lay_large(words: &mut [u64]) {
-    let mut i = 0;
-    while i < words.len() {
-        words[i] = large_word(i / MAX_ENTRY_WORDS, i % MAX_ENTRY_WORDS);
-        i += 1;
+    for (e, entry) in words.chunks_mut(MAX_ENTRY_WORDS).enumerate() {
+        for (j, word) in entry.iter_mut().enumerate() {
+            *word = large_word(e, j);
+        }
     }
 }

@@ -1,9 +1,13 @@
 -- Laws of the places of a trial, and of what is judged before the first one. Assumes nothing.
+use Rattle.std.specs.List.{list_all}
+use Rattle.model.specs.Lists.{every}
+use Rattle.model.specs.Trials.{Plan, trial_number}
+use Rattle.model.proofs.Trials.{judged}
 use Prim.Native.Nat.{ℕ, suc, ◌+◌, ◌*◌, ◌-◌, ◌<◌, ◌≤◌}
 use native.Mathlib.Nat.{mul-le-mul, mul_assoc, mul_comm}
 use native.Mathlib.Omega.{arith}
-use mathlib.Core.Path.{◌≡◌, sym, ap, ◌∙◌}
-use mathlib.Core.Bool.{true, false, ◌&&◌}
+use mathlib.Core.Path.{◌≡◌, refl, sym, ap, ◌∙◌}
+use mathlib.Core.Bool.{Bool, true, false, ◌&&◌}
 use mathlib.Core.List.{List, [], ◌∷◌, ◌++◌, append_assoc, append-nil}
 use lib.ListN.{length, take, set, length-set}
 use lib.Seq.{take-suc-set, take_all}
@@ -13,6 +17,12 @@ use Rattle.model.specs.Numbers.{one_to}
 use Rattle.model.specs.Trials.{max_steps, max_cutoffs, repeated}
 use Rattle.model.proofs.Lists.{and_both}
 use Rattle.model.proofs.Groups.{stride-le}
+
+-- a test of each element, as std has it
+pub every-all : {X : Type 0} (p : X → Bool) (l : List X) → list_all p l ≡ every p l
+unfolding every
+every-all p [] = refl
+every-all p (x ∷ xs) = ap (λ (b : Bool). p x && b) (every-all p xs)
 
 -- as many steps and cutoffs as there may be
 pub record Few (steps cutoffs : ℕ) : Type 0 where
@@ -37,7 +47,18 @@ few steps cutoffs e =
 pub few_words : {steps cutoffs : ℕ} → Few steps cutoffs → 2 * cutoffs * steps ≤ 1024
 few_words {steps} {cutoffs} f = let c : 2 * cutoffs ≤ 16 = omega (arith, f.cutoffs-8) in mul-le-mul c f.steps-64
 
--- the places of a trial are among them
+-- so much was judged of a plan that is tried
+pub few-judged : (p : Plan) (words room : ℕ) → trial_number p words room ≡ 0 → Few p.count (length p.cutoffs)
+few-judged p words room e = few p.count (length p.cutoffs) (judged p words room e).counts
+
+-- the places of a trial are among these words
+pub places-small : {steps cutoffs : ℕ} (i : ℕ) → Few steps cutoffs → i < cutoffs → i * (2 * steps) + 2 * steps ≤ 1024
+places-small {steps} {cutoffs} i f h =
+    let w : 2 * steps ≤ 128 = omega (arith, f.steps-64) in
+    let c : i ≤ 7 = omega (arith, h, f.cutoffs-8) in
+    let m : i * (2 * steps) ≤ 7 * 128 = mul-le-mul c w in
+    omega (arith, m, w)
+
 pub places-within : (steps cutoffs i room : ℕ) → i < cutoffs → ltb room (2 * cutoffs * steps) ≡ false → i * (2 * steps) + 2 * steps ≤ room
 places-within steps cutoffs i room h e =
     let l : 2 * cutoffs * steps ≤ room = ltb-false room (2 * cutoffs * steps) e in

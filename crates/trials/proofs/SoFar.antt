@@ -19,6 +19,8 @@ use Rattle.model.specs.Calls.{Call, Lent, Left, gave, plain_answer, zero_header,
 use Rattle.model.specs.Demand3.{next, after_calls}
 use borrow.Author.Tests.{ne_eqb}
 use Rattle.model.specs.Trials.{trial_number, tried_all, tried_by, tried, TrialsPromise, TrialsAgree, Plan, fresh_of, trial_begun, trial_left, trial_places, last_cutoff, accepted_of, place_of, places_of, repeated}
+use Rattle.model.specs.Known.{Checked}
+use Rattle.model.proofs.Known.{start-checked}
 use Rattle.model.proofs.Trials.{Judged, fresh-begins, trials-agree}
 
 -- ---- the places of a trial: two words for each step
@@ -62,6 +64,12 @@ module _ (p : Plan) (room : ℕ) (w : List ℕ) (j : Judged p (length w) room) (
   pub fresh-accepted : (v : List ℕ) → length v ≡ length w → (start (fresh_of p cutoff) v).answer.number ≡ 0
   unfolding left_by plain_answer
   fresh-accepted v e = ap (λ (l : Left). l.answer.number) (fresh-is v e)
+
+  -- .. which begins the trial of turn i
+  pub turn-begun : (d : Float) (v : List ℕ) (b : Lent) → length v ≡ length w → b ≡ next (start (fresh_of p (get_or p.cutoffs i d)) v) → Checked b × (b ≡ trial_begun p w cutoff)
+  turn-begun d v b l e =
+      let e₀ : b ≡ next (start (fresh_of p cutoff) v) = e ∙ ap (λ (c : Float). next (start (fresh_of p c) v)) (within-any p.cutoffs i d (float zero_bits) h) in
+      (subst Checked (sym e₀) (start-checked _ v (fresh-accepted v l)), e₀ ∙ ap next (fresh-same v l))
 
 -- ---- stretches of k words, one for each of a list's elements
 

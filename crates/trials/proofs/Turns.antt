@@ -85,10 +85,3 @@ rest-none count i cs qs h = ap (λ (k : ℕ). step_calls k (drop i cs) (drop i q
   where
     none : (count i : ℕ) → count ≤ i → count - i ≡ 0
     none count i h = omega arith
-
--- all of them
-pub rest_all : (count : ℕ) (cs : List Channel) (qs : List ℕ) → rest count cs qs 0 ≡ step_calls count cs qs
-rest_all count cs qs = ap (λ (k : ℕ). step_calls k cs qs) (less_none count)
-  where
-    less_none : (count : ℕ) → count - 0 ≡ count
-    less_none count = omega arith

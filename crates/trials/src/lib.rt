@@ -25,27 +25,18 @@ pub const MAX_CUTOFFS: usize = 8;
 fn cutoffs_sound(cutoffs: &[f64]) -> bool
     ensures { result ≡ every finite_from_zero cutoffs.now }
 {
-    let mut i = 0;
-    while i < cutoffs.len() {
-        if !checks::finite_from_zero(cutoffs[i]) {
-            return false;
-        }
-        i += 1;
-    }
-    true
+    cutoffs.iter().all(|c| checks::finite_from_zero(*c))
 }
 
 // 11 does not apply.
 fn counts_sound(count: usize, cutoffs: usize) -> bool
     ensures { result ≡ (one_to max_steps count && one_to max_cutoffs cutoffs) }
 {
-    if checks::one_to(MAX_STEPS, count) {
-        return checks::one_to(MAX_CUTOFFS, cutoffs);
-    }
-    false
+    checks::one_to(MAX_STEPS, count) && checks::one_to(MAX_CUTOFFS, cutoffs)
 }
 
-// 1, 11, 2 or 8, in this order, or 0: all that is judged before the first trial.
+// 1, 11, 2 or 8, in this order, or 0: all that is judged before the first trial. A number, as the C interface gives it in an answer.
+#[tactic(auto, unfolding(model::specs::Numbers::first_of, model::specs::Trials::trial_tests))]
 fn trials_number(
     size: Size,
     threshold: f64,
@@ -62,10 +53,7 @@ fn trials_number(
     if !counts_sound(count, cutoffs.len()) {
         return 11;
     }
-    if !checks::finite_from_zero(threshold) {
-        return 2;
-    }
-    if !cutoffs_sound(cutoffs) {
+    if !checks::finite_from_zero(threshold) || !cutoffs_sound(cutoffs) {
         return 2;
     }
     checks::test(8, room < 2 * cutoffs.len() * count)
@@ -88,10 +76,8 @@ fn fill_places(places: &mut [u64], i: usize, count: usize, number: u64, entries:
     requires { (i ≤ count) × (count ≤ 64) × (length places.old ≡ 2 * count) }
     ensures { places.new ≡ take (2 * i) places.old ++ repeated (count - i) (number ∷ entries ∷ []) }
 {
-    let mut place = i;
-    while place < count {
+    for place in i..count {
         put_place(places, place, number, entries);
-        place += 1;
     }
 }
 
@@ -109,8 +95,7 @@ fn run_trial(
     ensures shown { places.new ≡ places_of (step_calls count channels qubits) (held h store.old) }
 {
     let mut header = h;
-    let mut i: usize = 0;
-    while i < count {
+    for i in 0..count {
         let channel = channels[i];
         let a = noise::channel_known(header, store, channel, qubits[i], true);
         header = a.header;
@@ -120,7 +105,6 @@ fn run_trial(
             return header;
         }
         put_place(places, i, 0, entries);
-        i += 1;
     }
     header
 }
@@ -144,13 +128,11 @@ fn run_trials(
 {
     let words = 2 * count;
     let mut header = answers::zero_header();
-    let mut i: usize = 0;
-    while i < cutoffs.len() {
-        let a = fresh::fresh(size, threshold, cutoffs[i], store);
+    for (i, cutoff) in cutoffs.iter().enumerate() {
+        let a = fresh::fresh(size, threshold, *cutoff, store);
         let from = i * words;
         let to = from + words;
         header = run_trial(a.header, store, channels, qubits, count, &mut out[from..to]);
-        i += 1;
     }
     header
 }

@@ -7,7 +7,7 @@ ghost use Rattle.trials.specs.Steps.{channel_of, known, channels_in, well_formed
 
 use model::{Answer, Channel, Size};
 
-// The number of slices that are not as long as each other, or have a kind that is not known. No call gives it.
+// The number of slices that are not as long as each other, or have a kind that is not known. No call gives it. A number, for the C interface.
 pub const DOES_NOT_FIT: u64 = 19;
 
 // ---- the test
@@ -15,27 +15,15 @@ pub const DOES_NOT_FIT: u64 = 19;
 fn kinds_known(kinds: &[u64]) -> bool
     ensures { result ≡ every known kinds.now }
 {
-    let mut i = 0;
-    while i < kinds.len() {
-        if 3 <= kinds[i] {
-            return false;
-        }
-        i += 1;
-    }
-    true
+    kinds.iter().all(|kind| *kind < 3)
 }
 
 // Known kinds, and a qubit and three rates for each.
+#[tactic(auto, unfolding(crate::specs::Steps::well_formed))]
 fn well_formed(kinds: &[u64], qubits: usize, rates: usize) -> bool
     ensures { result ≡ well_formed kinds.now qubits rates }
 {
-    if qubits != kinds.len() {
-        return false;
-    }
-    if rates != 3 * kinds.len() {
-        return false;
-    }
-    kinds_known(kinds)
+    qubits == kinds.len() && rates == 3 * kinds.len() && kinds_known(kinds)
 }
 
 // ---- the arrays
@@ -44,23 +32,19 @@ fn well_formed(kinds: &[u64], qubits: usize, rates: usize) -> bool
 fn held_of(count: usize) -> usize
     ensures { (result ≤ 64) × (result ≤ count) × (count ≤ 64 → result ≡ count) }
 {
-    if count < 64 {
-        return count;
-    }
-    64
+    count.min(64)
 }
 
-// 0: a Pauli channel with its three rates. 1, 2: loss, depolarising, with the first of them.
+// 0: a Pauli channel with its three rates. 1, 2: loss, depolarising, with the first of them. The C interface has kinds as words.
+#[tactic(auto, unfolding(crate::specs::Steps::channel_of))]
 fn channel_of(kind: u64, x: f64, y: f64, z: f64) -> Channel
     ensures { result ≡ channel_of kind x y z }
 {
-    if kind == 0 {
-        return Channel::Pauli(x, y, z);
+    match kind {
+        0 => Channel::Pauli(x, y, z),
+        1 => Channel::Loss(x),
+        _ => Channel::Depolarizing(x),
     }
-    if kind == 1 {
-        return Channel::Loss(x);
-    }
-    Channel::Depolarizing(x)
 }
 
 // The first `count` channels.
@@ -70,11 +54,9 @@ fn channels_in(kinds: &[u64], rates: &[f64], count: usize) -> [Channel; 64]
 {
     let none = Channel::Loss(0.0);
     let mut all = [none; 64];
-    let mut i: usize = 0;
-    while i < count {
+    for i in 0..count {
         let at = 3 * i;
         all[i] = channel_of(kinds[i], rates[at], rates[at + 1], rates[at + 2]);
-        i += 1;
     }
     all
 }
@@ -85,11 +67,7 @@ fn qubits_in(qubits: &[usize], count: usize) -> [usize; 64]
     ensures { take count result ≡ take count qubits.now }
 {
     let mut all = [0; 64];
-    let mut i: usize = 0;
-    while i < count {
-        all[i] = qubits[i];
-        i += 1;
-    }
+    all[..count].copy_from_slice(&qubits[..count]);
     all
 }
 

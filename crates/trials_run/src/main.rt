@@ -8,7 +8,7 @@
 
 use model::{Answer, Channel, Header, Size};
 use streams::STDIN_FILENO;
-use test_support::{CALL_WORDS, MOST_CALLS};
+use test_support::{CALL_WORDS, Given, MOST_CALLS};
 
 // A case is given as an item: n, K, capacity, threshold, how many words of the store and of the output are lent, how many steps, how many cutoffs,
 // and these, at most 9. Its steps follow as calls, at most 65.
@@ -23,21 +23,22 @@ const LENT: u64 = 0x5555_5555_5555_5555;
 
 // ---- a case
 
-// What is tried, but for the cutoffs and the channels and qubits of the steps, of which there are `count`.
-#[derive(Clone, Copy)]
-struct Case {
+// What is tried: of the steps, the first `count`.
+#[derive(Drop)]
+struct Case<'a> {
     size: Size,
     threshold: f64,
+    cutoffs: &'a [f64],
+    channels: [Channel; 64],
+    qubits: [usize; 64],
     count: usize,
 }
 
 // All nine, whether they count or not.
-fn cutoffs_in(item: [u64; 18]) -> [f64; 9] {
-    let mut cutoffs = [0.0f64; 9];
-    let mut i: usize = 0;
-    while i < 9 {
-        cutoffs[i] = words::float_of(item[9 + i]);
-        i += 1;
+fn cutoffs_in(item: &[u64; 18]) -> [f64; 9] {
+    let mut cutoffs = [0.0; 9];
+    for (cutoff, word) in cutoffs.iter_mut().zip(&item[9..]) {
+        *cutoff = words::float_of(*word);
     }
     cutoffs
 }
@@ -48,53 +49,30 @@ fn rate(call: &[u64], i: usize) -> f64 {
 
 // The channel that the words of a call say.
 fn channel_in(call: &[u64]) -> Channel {
-    let kind = test_support::word_at(call, 0);
-    let x = rate(call, 3);
-    if kind == 0 {
-        let y = rate(call, 4);
-        let z = rate(call, 5);
-        return Channel::Pauli(x, y, z);
+    match test_support::word_at(call, 0) {
+        0 => Channel::Pauli(rate(call, 3), rate(call, 4), rate(call, 5)),
+        1 => Channel::Loss(rate(call, 3)),
+        _ => Channel::Depolarizing(rate(call, 3)),
     }
-    if kind == 1 {
-        return Channel::Loss(x);
-    }
-    Channel::Depolarizing(x)
-}
-
-// The words of call i.
-fn call_at(calls: &[u64], i: usize) -> &[u64] {
-    if i < 64 {
-        let from = CALL_WORDS * i;
-        let to = from + CALL_WORDS;
-        if to <= calls.len() {
-            return &calls[from..to];
-        }
-    }
-    calls
 }
 
 fn channels_in(calls: &[u64]) -> [Channel; 64] {
     let mut channels = [Channel::Loss(0.0); 64];
-    let mut i: usize = 0;
-    while i < 64 {
-        let channel = channel_in(call_at(calls, i));
-        channels[i] = channel;
-        i += 1;
+    for (channel, call) in channels.iter_mut().zip(calls.chunks_exact(CALL_WORDS)) {
+        *channel = channel_in(call);
     }
     channels
 }
 
 fn qubits_in(calls: &[u64]) -> [usize; 64] {
-    let mut qubits = [0usize; 64];
-    let mut i: usize = 0;
-    while i < 64 {
-        qubits[i] = test_support::word_at(call_at(calls, i), 1) as usize;
-        i += 1;
+    let mut qubits = [0; 64];
+    for (q, call) in qubits.iter_mut().zip(calls.chunks_exact(CALL_WORDS)) {
+        *q = test_support::word_at(call, 1) as usize;
     }
     qubits
 }
 
-fn case_of(item: [u64; 18]) -> Case {
+fn case_of<'a>(item: &[u64; 18], calls: &[u64], cutoffs: &'a [f64]) -> Case<'a> {
     Case {
         size: Size {
             n: item[1] as usize,
@@ -102,6 +80,9 @@ fn case_of(item: [u64; 18]) -> Case {
             capacity: item[3] as usize,
         },
         threshold: words::float_of(item[4]),
+        cutoffs,
+        channels: channels_in(calls),
+        qubits: qubits_in(calls),
         count: item[7] as usize,
     }
 }
@@ -116,112 +97,50 @@ fn step(a: Answer, store: &mut [u64], channel: Channel, q: usize) -> Answer {
     a
 }
 
-// A place's two words, from word `at` on.
-fn put_place(out: &mut [u64], at: usize, a: Answer) {
+// A place's two words.
+fn put_place(place: &mut [u64], a: Answer) {
     let h = a.header;
-    if at < OUTPUT_WORDS {
-        test_support::put_word(out, at, a.number);
-        test_support::put_word(out, at + 1, h.count as u64);
-    }
+    test_support::put_word(place, 0, a.number);
+    test_support::put_word(place, 1, h.count as u64);
 }
 
-// So many places after word `from`.
-fn after_places(from: usize, count: usize) -> usize {
-    if from < OUTPUT_WORDS {
-        if count <= 64 {
-            return from + 2 * count;
+impl Case<'_> {
+    fn words_of_places(&self) -> usize {
+        self.count.wrapping_mul(2)
+    }
+
+    // A trial: the fresh call and the steps, for which there are places.
+    fn one_trial(&self, cutoff: f64, store: &mut [u64], places: &mut [u64]) -> Header {
+        let mut a = fresh::fresh(self.size, self.threshold, cutoff, store);
+        let steps = self.channels.iter().zip(self.qubits.iter());
+        for ((channel, q), place) in steps.zip(places.chunks_exact_mut(2)) {
+            a = step(a, store, *channel, *q);
+            put_place(place, a);
         }
+        a.header
     }
-    from
-}
 
-// The steps after a fresh call. Their places begin at word `from`.
-fn make_steps(
-    begun: Answer,
-    store: &mut [u64],
-    channels: [Channel; 64],
-    qubits: [usize; 64],
-    count: usize,
-    out: &mut [u64],
-    from: usize,
-) -> Header {
-    let mut a = begun;
-    let mut i: usize = 0;
-    while i < 64 {
-        if count <= i {
-            return a.header;
+    // .. for each cutoff, in one store. The header is that of the last sum.
+    fn one_by_one(&self, store: &mut [u64], out: &mut [u64]) -> Header {
+        let mut header = answers::zero_header();
+        let words = self.words_of_places().max(1);
+        for (cutoff, places) in self.cutoffs.iter().zip(out.chunks_exact_mut(words)) {
+            header = self.one_trial(*cutoff, store, places);
         }
-        let channel = channels[i];
-        a = step(a, store, channel, qubits[i]);
-        put_place(out, after_places(from, i), a);
-        i += 1;
+        header
     }
-    a.header
-}
-
-// A trial: the fresh call and the steps.
-fn one_trial(
-    case: Case,
-    cutoff: f64,
-    channels: [Channel; 64],
-    qubits: [usize; 64],
-    store: &mut [u64],
-    out: &mut [u64],
-    from: usize,
-) -> Header {
-    let begun = fresh::fresh(case.size, case.threshold, cutoff, store);
-    make_steps(begun, store, channels, qubits, case.count, out, from)
-}
-
-// .. for each cutoff, in one store. The header is that of the last sum.
-fn one_by_one(
-    case: Case,
-    cutoffs: &[f64],
-    channels: [Channel; 64],
-    qubits: [usize; 64],
-    store: &mut [u64],
-    out: &mut [u64],
-) -> Header {
-    let mut header = answers::zero_header();
-    let mut from: usize = 0;
-    let mut i: usize = 0;
-    while i < 8 {
-        if cutoffs.len() <= i {
-            return header;
-        }
-        header = one_trial(case, cutoffs[i], channels, qubits, store, out, from);
-        from = after_places(from, case.count);
-        i += 1;
-    }
-    header
 }
 
 // ---- what is told
 
 // How many words of the two are not the same.
 fn differing(a: &[u64], b: &[u64]) -> u64 {
-    let mut found: u64 = 0;
-    let mut i = 0;
-    while i < a.len() {
-        if a[i] != test_support::word_at(b, i) {
-            found = std::num::wrapping_add_u64(found, 1);
-        }
-        i += 1;
-    }
-    found
+    a.iter().zip(b).filter(|(x, y)| **x != **y).count() as u64
 }
 
 // How many words from a place on are not v.
 fn others(words: &[u64], from: usize, v: u64) -> u64 {
-    let mut found: u64 = 0;
-    let mut i = from;
-    while i < words.len() {
-        if words[i] != v {
-            found = std::num::wrapping_add_u64(found, 1);
-        }
-        i += 1;
-    }
-    found
+    words.iter().skip(from).filter(|w| **w != v).count() as u64
 }
 
 fn header_words(h: Header) -> [u64; 7] {
@@ -241,7 +160,9 @@ fn header_words(h: Header) -> [u64; 7] {
 fn tell_answer(case: u64, a: Answer) {
     let counts = a.counts;
     let lost = a.lost;
-    let numbers = [
+    test_support::number(case);
+    test_support::text(b" gives");
+    test_support::numbers(&[
         a.number,
         counts.merged as u64,
         counts.stored as u64,
@@ -251,13 +172,9 @@ fn tell_answer(case: u64, a: Answer) {
         a.length as u64,
         words::bits_of(lost.dropped),
         words::bits_of(lost.truncated),
-    ];
-    let header = header_words(a.header);
-    test_support::number(case);
-    test_support::text(b" gives");
-    test_support::numbers(&numbers, 0, 9);
+    ]);
     test_support::text(b", header");
-    test_support::numbers(&header, 0, 7);
+    test_support::numbers(&header_words(a.header));
 }
 
 fn tell_refused(store: &[u64], out: &[u64]) {
@@ -267,105 +184,64 @@ fn tell_refused(store: &[u64], out: &[u64]) {
     test_support::text(b"\n");
 }
 
-// The words of the listed entries.
-fn listed_words(h: Header, len: u64) -> usize {
-    words::wrapping_mul(h.count as u64, len) as usize
-}
-
 // The words of an entry.
 fn entry_words(h: Header, store: &[u64]) -> usize {
     let size = h.size;
-    if size.capacity == 0 {
-        return 0;
-    }
-    store.len() / size.capacity
+    store.len().checked_div(size.capacity).unwrap_or(0)
+}
+
+// The words of the listed entries.
+fn listed_words(h: Header, store: &[u64]) -> usize {
+    entry_words(h, store).wrapping_mul(h.count)
 }
 
 fn tell_behind(a: Answer, store: &[u64], out: &[u64]) {
-    let h = a.header;
-    let len = entry_words(h, store);
     test_support::text(b", behind");
     test_support::number(others(out, a.length, LENT));
-    test_support::number(others(store, listed_words(h, len as u64), 0));
+    test_support::number(others(store, listed_words(a.header, store), 0));
 }
 
 // The places of a trial on a line, an entry on a line.
-fn tell_words(a: Answer, count: usize, store: &[u64], out: &[u64]) {
-    let h = a.header;
-    let len = entry_words(h, store);
-    test_support::lines(out, a.length, words::wrapping_mul(2, count as u64) as usize);
-    test_support::lines(store, listed_words(h, len as u64), len);
+fn tell_words(a: Answer, case: &Case<'_>, store: &[u64], out: &[u64]) {
+    let places = test_support::first(out, a.length);
+    let entries = test_support::first(store, listed_words(a.header, store));
+    test_support::lines(places, case.words_of_places());
+    test_support::lines(entries, entry_words(a.header, store));
 }
 
 // ---- the cases
 
-// The calls one by one in another store and output: how many words of these are not as they were left. The header that they leave.
+// The calls one by one in another store and output: how many words of these, and of the header, are not as they were left.
 fn compare(
-    case: Case,
-    cutoffs: &[f64],
-    channels: [Channel; 64],
-    qubits: [usize; 64],
+    h: Header,
+    case: &Case<'_>,
     store: &[u64],
     out: &[u64],
     other_store: &mut [u64],
     other_out: &mut [u64],
-) -> Header {
-    let other = one_by_one(case, cutoffs, channels, qubits, other_store, other_out);
+) {
+    test_support::text(b", one by one");
+    let other = case.one_by_one(other_store, other_out);
     test_support::number(differing(out, other_out));
     test_support::number(differing(store, other_store));
-    other
-}
-
-// .. of the same lengths; and how many words of the headers.
-fn compare_all(
-    h: Header,
-    case: Case,
-    cutoffs: &[f64],
-    channels: [Channel; 64],
-    qubits: [usize; 64],
-    store: &[u64],
-    out: &[u64],
-) {
-    let mut other_store = [LENT; STORE_WORDS];
-    let mut other_out = [LENT; OUTPUT_WORDS];
-    let len = store.len();
-    let room = out.len();
-    test_support::text(b", one by one");
-    if len <= STORE_WORDS {
-        if room <= OUTPUT_WORDS {
-            let other = compare(
-                case,
-                cutoffs,
-                channels,
-                qubits,
-                store,
-                out,
-                &mut other_store[0..len],
-                &mut other_out[0..room],
-            );
-            let words = header_words(h);
-            let other_words = header_words(other);
-            test_support::number(differing(&words, &other_words));
-        }
-    }
+    test_support::number(differing(&header_words(h), &header_words(other)));
     test_support::text(b"\n");
 }
 
 fn run_case(
     place: u64,
-    case: Case,
-    cutoffs: &[f64],
-    channels: [Channel; 64],
-    qubits: [usize; 64],
+    case: &Case<'_>,
     store: &mut [u64],
     out: &mut [u64],
+    other_store: &mut [u64],
+    other_out: &mut [u64],
 ) {
     let a = trials::try_cutoffs(
         case.size,
         case.threshold,
-        cutoffs,
-        channels,
-        qubits,
+        case.cutoffs,
+        case.channels,
+        case.qubits,
         case.count,
         store,
         out,
@@ -376,52 +252,44 @@ fn run_case(
         return;
     }
     tell_behind(a, store, out);
-    compare_all(a.header, case, cutoffs, channels, qubits, store, out);
-    tell_words(a, case.count, store, out);
+    compare(a.header, case, store, out, other_store, other_out);
+    tell_words(a, case, store, out);
 }
 
-// With the words that are lent.
-fn lend(place: u64, item: [u64; 18], calls: &[u64]) {
-    let mut store = [LENT; STORE_WORDS];
-    let mut out = [LENT; OUTPUT_WORDS];
-    let cutoffs = cutoffs_in(item);
+// With the words that are lent, of which there are two lots.
+fn lend(place: u64, item: &[u64; 18], calls: &[u64]) {
     let len = item[5] as usize;
     let room = item[6] as usize;
     let tried = item[8] as usize;
-    if len <= STORE_WORDS {
-        if room <= OUTPUT_WORDS {
-            if tried <= 9 {
-                run_case(
-                    place,
-                    case_of(item),
-                    &cutoffs[0..tried],
-                    channels_in(calls),
-                    qubits_in(calls),
-                    &mut store[0..len],
-                    &mut out[0..room],
-                );
-                return;
-            }
-        }
+    if len > STORE_WORDS || room > OUTPUT_WORDS || tried > 9 {
+        test_support::text(b"a case has no room\n");
+        return;
     }
-    test_support::text(b"a case has no room\n");
+    let mut store = [LENT; STORE_WORDS];
+    let mut out = [LENT; OUTPUT_WORDS];
+    let mut other_store = [LENT; STORE_WORDS];
+    let mut other_out = [LENT; OUTPUT_WORDS];
+    let cutoffs = cutoffs_in(item);
+    run_case(
+        place,
+        &case_of(item, calls, &cutoffs[0..tried]),
+        &mut store[0..len],
+        &mut out[0..room],
+        &mut other_store[0..len],
+        &mut other_out[0..room],
+    );
 }
 
-// The cases up to the end of what is given.
+// The cases up to the end of what is given, at most 1000.
 fn run_given(given: &[u8]) {
-    let mut item = [0u64; 18];
+    let mut given = Given::new(given);
     let mut calls = [0u64; STEPS_WORDS];
-    let mut at = 0;
-    let mut i: u64 = 0;
-    while i < 1000 {
-        at = test_support::skip(given, at);
-        if given.len() <= at {
+    for place in 1..1001 {
+        let Some(item) = given.item() else {
             return;
-        }
-        at = test_support::read_item(given, at, &mut item);
-        at = test_support::read_calls(given, at, item[7] as usize, &mut calls);
-        i += 1;
-        lend(i, item, &calls);
+        };
+        given.calls(item[7] as usize, &mut calls);
+        lend(place, &item, &calls);
     }
 }
 

@@ -1,5 +1,5 @@
-// The view of one entry: document 01, "A reader may look at one entry through a view of exactly that stretch". The borrow checker
-// covers no function over a struct that holds a slice, so the work is in functions on the slice and numbers.
+// The view of one entry: document 01, "A reader may look at one entry through a view of exactly that stretch". The work is in functions on the
+// slice and numbers.
 #![tactic(auto)]
 
 ghost use Rattle.std.specs.Prelude.{◌≡◌, ◌+◌, ◌*◌, ◌≤◌, get_or};
@@ -80,10 +80,7 @@ pub fn view_words_known(h: Header, store: &[u64], place: usize, known: bool) -> 
 pub fn word_at(words: &[u64], i: usize) -> u64
     ensures { result ≡ get_or words.now i 0 }
 {
-    if i < words.len() {
-        return words[i];
-    }
-    0
+    words.get(i).copied().unwrap_or(0)
 }
 
 // Word i as a float.
@@ -109,21 +106,17 @@ fn triple_word(words: &[u64], j: usize, p: usize) -> u64
 pub fn coefficient_at(words: &[u64], size: Size, j: usize) -> Coef
     ensures { result ≡ coef_at (entry_of size words.now).entry.body.coefs j }
 {
-    let k = size.k;
-    if k <= j {
+    if size.k <= j {
         return Coef {
             index: 0,
             re: 0.0,
             im: 0.0,
         };
     }
-    let index = triple_word(words, j, 0);
-    let re = triple_word(words, j, 1);
-    let im = triple_word(words, j, 2);
     Coef {
-        index,
-        re: words::float_of(re),
-        im: words::float_of(im),
+        index: triple_word(words, j, 0),
+        re: words::float_of(triple_word(words, j, 1)),
+        im: words::float_of(triple_word(words, j, 2)),
     }
 }
 
@@ -132,14 +125,7 @@ pub fn row_at(words: &[u64], size: Size, r: usize) -> RowWords
     ensures { result ≡ row_words_at (entry_of size words.now).entry.body.rows r }
 {
     let k = size.k;
-    if words.len() < k {
-        return RowWords {
-            x: 0,
-            z: 0,
-            phase: 0,
-        };
-    }
-    if words.len() - k < r {
+    if words.len() < k || words.len() - k < r {
         return RowWords {
             x: 0,
             z: 0,

@@ -98,24 +98,20 @@ fn tell_row(h: Header, store: &[u64], place: usize, r: usize) {
 // The words of an entry, and one that is not there.
 fn tell_words(h: Header, store: &[u64], place: usize) {
     test_support::text(b"words:");
-    let mut i: usize = 0;
-    while i < 24 {
+    for i in 0..24 {
         test_support::number(view::view_word(h, store, place, i));
-        i += 1;
     }
     test_support::text(b"\n");
 }
 
 fn tell(h: Header, store: &[u64], place: usize) {
     tell_head(h, store, place);
-    tell_coefficient(h, store, place, 0);
-    tell_coefficient(h, store, place, 1);
-    tell_coefficient(h, store, place, 2);
-    tell_row(h, store, place, 0);
-    tell_row(h, store, place, 1);
-    tell_row(h, store, place, 2);
-    tell_row(h, store, place, 3);
-    tell_row(h, store, place, 4);
+    for j in 0..3 {
+        tell_coefficient(h, store, place, j);
+    }
+    for r in 0..5 {
+        tell_row(h, store, place, r);
+    }
     tell_words(h, store, place);
 }
 
@@ -164,9 +160,7 @@ fn made(store: &mut [u64]) -> Header {
 fn main() {
     let mut store = [0u64; 115];
     let h = made(&mut store);
-    tell(h, &store, 0);
-    tell(h, &store, 1);
-    tell(h, &store, 2);
-    tell(h, &store, 3);
-    tell(h, &store, 4);
+    for place in 0..5 {
+        tell(h, &store, place);
+    }
 }

@@ -22,8 +22,7 @@ pub fn normalise_known(h: Header, store: &mut [u64], known: bool) -> Answer
     if number != 0 {
         return answers::plain_answer(h, number);
     }
-    let size = h.size;
-    let count = h.count;
+    let Header { size, count, .. } = h;
     if crate::normalise_entries(store, size, count) {
         return answers::plain_answer(h, 0);
     }

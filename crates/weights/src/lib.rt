@@ -24,10 +24,8 @@ pub fn weights_total(store: &[u64], size: Size, count: usize) -> f64
 {
     let len = entries::entry_len(size);
     let mut sum = 0.0;
-    let mut i = 0;
-    while i < count {
-        sum = sum + words::float_of(store[i * len]);
-        i += 1;
+    for i in 0..count {
+        sum += words::float_of(store[i * len]);
     }
     sum
 }
@@ -38,12 +36,10 @@ pub fn divide_weights(store: &mut [u64], size: Size, count: usize, by: f64)
     ensures { Holds size count (map (divided_by keyed_weighed by) (listed size count store.old)) store.new }
 {
     let len = entries::entry_len(size);
-    let mut i = 0;
-    while i < count {
+    for i in 0..count {
         let at = i * len;
         let weight = words::float_of(store[at]);
         store[at] = words::bits_of(weight / by);
-        i += 1;
     }
 }
 
@@ -81,16 +77,14 @@ fn keep_above(store: &mut [u64], size: Size, count: usize, cutoff: f64) -> Cut
     let len = entries::entry_len(size);
     let mut left = 0;
     let mut taken = 0.0;
-    let mut i = 0;
-    while i < count {
+    for i in 0..count {
         let weight = words::float_of(store[i * len]);
         if cutoff < weight {
             entries::move_entry(store, size, count, i, left);
             left += 1;
         } else {
-            taken = taken + weight;
+            taken += weight;
         }
-        i += 1;
     }
     entries::clear_from(store, size, left, count);
     Cut { left, taken }

@@ -1,8 +1,6 @@
-use Rattle.std.proofs.Common.{◌-◌, ◌≤◌, length}
+-- The next cutoff begins in the list.
+use Rattle.std.proofs.Common.{◌≤◌, length}
 use Rattle.options.proofs.cutoffs_of.Given as goal
 
-abbrev pub invariant-loop-count : goal.invariant-loop-count
-invariant-loop-count l = (l.count ≤ 8) × (l.at ≤ length l.list)
-
-abbrev pub decreases-loop-count : goal.decreases-loop-count
-decreases-loop-count l = 8 - l.count
+abbrev pub invariant-loop-i : goal.invariant-loop-i
+invariant-loop-i l = l.at ≤ length l.list

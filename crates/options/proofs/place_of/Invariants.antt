@@ -1,3 +1,4 @@
+-- The place is in an argument, and each turn goes on in the arguments.
 use Rattle.std.proofs.Common.{◌-◌, ◌≤◌}
 use Rattle.options.proofs.place_of.Given as goal
 

@@ -1,9 +1,6 @@
-use Rattle.std.proofs.Common.{◌-◌, ◌≡◌, ◌<◌, ◌≤◌, length, get_or, ℕ, ◌+◌, ◌*◌}
+-- No place before i has the byte.
 use Rattle.scan.specs.Finds.{Lacks}
 use Rattle.scan.proofs.find.Given as goal
 
 abbrev pub invariant-loop-i : goal.invariant-loop-i
-invariant-loop-i l = (l.from ≤ l.i) × ((l.i ≤ l.to) × Lacks l.bytes l.from l.i l.byte)
-
-abbrev pub decreases-loop-i : goal.decreases-loop-i
-decreases-loop-i l = l.to - l.i
+invariant-loop-i l = Lacks l.bytes l.from l.i l.byte

@@ -1,6 +1,5 @@
--- `spread::merge_parents`. The loop's invariant: the branches of the first i parents are merged, the keys noted, and the
--- tables at hand those of parents that were passed.
-use Rattle.std.proofs.Common.{◌≡◌, ◌≤◌, ◌-◌, length, []}
+-- The branches of the first i parents are merged, the keys noted, and the tables at hand those of parents that were passed.
+use Rattle.std.proofs.Common.{[]}
 use Rattle.seeking.specs.Noted.{seen_at, Noted}
 use Rattle.merging.specs.Progress.{Went, started}
 use Rattle.spread.specs.Branches.{TablesUpTo, branches_up_to}
@@ -8,10 +7,6 @@ use Rattle.spread.proofs.merge_parents.Given as goal
 
 abbrev pub invariant-loop-i : goal.invariant-loop-i
 invariant-loop-i l =
-    (l.i ≤ l.count) × (length l.store ≡ length l.initial.store)
-    × Went l.limits.size l.limits.threshold l.limits.cutoff (branches_up_to l.limits.size l.limits.threshold l.arms l.saved l.initial.store l.i) (started l.count) l.initial.store l.q l.store
+    Went l.limits.size l.limits.threshold l.limits.cutoff (branches_up_to l.limits.size l.limits.threshold l.arms l.saved l.initial.store l.i) (started l.count) l.initial.store l.q l.store
     × Noted l.q.count (seen_at l.limits.size [] l.store) l.keys l.firsts
     × TablesUpTo l.limits.size l.arms.shape l.i l.initial.store l.last × TablesUpTo l.limits.size l.arms.shape l.i l.initial.store l.before
-
-abbrev pub decreases-loop-i : goal.decreases-loop-i
-decreases-loop-i l = l.count - l.i
