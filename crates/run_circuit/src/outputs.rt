@@ -97,7 +97,7 @@ fn write_entry(place: u64, weight: u64, total: u64) -> bool {
 fn write_entries(h: Header, store: &[u64], table: &[u64], count: usize) -> bool {
     for entry in table.chunks_exact(2).take(count) {
         let [place, total] = *entry else {
-            return true;
+            return false;
         };
         if !write_entry(place, weight_at(store, h, place), total) {
             return false;
