@@ -15,6 +15,7 @@ use Rattle.fields.specs.Read.{column}
 use Rattle.std.specs.Prelude as code
 use Rattle.std.specs.Option as option
 use Rattle.std.specs.Prelude.{None, Some}
+use Rattle.std.specs.Option.{MatchOption}
 use Rattle.fields.specs.Read.{as_option}
 
 -- ---- words compared
@@ -96,3 +97,14 @@ large-read bs h = rw (le-ltb (value_from 0 bs) (2 ^ 64) h, and-false (same_words
 pub value_read : (o : code.Option ℕ) (v : ℕ) → as_option o ≡ some v → option.unwrap_or o 0 ≡ v
 value_read (Some w) v e = cc
 value_read None v e = let z : ◌≡◌ {A = ℕ} 0 1 = cc in absurd (omega arith)
+
+-- .. by its digits alone
+pub digits-read : (bs : List ℕ) (o : code.Option ℕ) (v : ℕ) → field_value bs ≡ some v → MatchOption o (2 ^ 64 ≤ value_from 0 bs) (λ w. w ≡ value_from 0 bs) → option.unwrap_or o 0 ≡ v
+digits-read bs o v e =
+    let f = read-field bs v e in
+    let n : value_from 0 bs ≡ v = ap (value_from 0) f.0 ∙ value-field v f.1 in
+    at o n
+  where
+    at : (o : code.Option ℕ) → value_from 0 bs ≡ v → MatchOption o (2 ^ 64 ≤ value_from 0 bs) (λ w. w ≡ value_from 0 bs) → option.unwrap_or o 0 ≡ v
+    at (Some w) n h = h ∙ n
+    at None n h = absurd (omega (arith, n, (read-field bs v e).1))

@@ -65,12 +65,12 @@ pub fn read_field(text: &[u8]) -> Option<u64>
     if is_field(text, v) { Some(v) } else { None }
 }
 
-// The number of the field that begins at byte `at`, if there is one.
+// The number of the field that begins at byte `at`, if there is one. That there is one is not looked at: those who ask know it.
 pub fn number_at(text: &[u8], at: usize) -> u64
     requires { at + columns ≤ length text.now }
     ensures { (v : ℕ) → field_value (take columns (drop at text.now)) ≡ some v → result ≡ v }
 {
-    read_field(&text[at..at + 21]).unwrap_or(0)
+    digits_value(&text[at..at + 21]).unwrap_or(0)
 }
 
 // Whether these bytes are a line of m fields.

@@ -16,6 +16,9 @@ use Rattle.likeness.specs.Walk.{Passed}
 -- ---- the walk
 
 module _ (coefs : List ℕ) (i count : ℕ) where
+  pub passed-same : (read read' : ℕ) → read ≡ read' → Passed coefs i count read → Passed coefs i count read'
+  passed-same read read' e p = rw e at p
+
   -- `next` is one more than were read
   module _ (read next : ℕ) (one : next ≡ read + 1) (l : next ≤ count) (p : Passed coefs i count read) where
     pub passed-more : (index_at coefs (count - next) ≡ i → ⊥) → Passed coefs i count next

@@ -26,7 +26,8 @@ fn walk_on(coefs: &[u64], count: usize, index: u64, begun: usize, more: usize) -
     requires { (3 * count ≤ length coefs.now) × (begun + more ≤ count) × Passed coefs.now index count begun }
     ensures { WalkedTo coefs.now index count (begun + more) result }
 {
-    for read in begun..begun + more {
+    for i in 0..more {
+        let read = begun + i;
         let at = 3 * (count - (read + 1));
         if coefs[at] == index {
             return Some(read + 1);
