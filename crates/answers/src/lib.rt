@@ -25,7 +25,7 @@ pub fn header(size: Size, count: usize, threshold: f64, cutoff: f64, dirty: bool
 pub fn header_with(h: Header, count: usize, dirty: bool) -> Header
     ensures { result ≡ header_with h count dirty }
 {
-    Header { count, dirty, ..h }
+    header(h.size, count, h.threshold, h.cutoff, dirty)
 }
 
 // The header of a refused fresh call or reading.

@@ -8,7 +8,7 @@ use native.Mathlib.Numerals.{add-one}
 use native.Mathlib.Omega.{arith}
 use lib.Bits.{bit_xor}
 use lib.ListN.{length, take, drop, get_or, set, length-append, length-drop, take-append-drop}
-use lib.Seq.{length-take-le, take_at, drop_at, set_at, drop-cons, drop-drop, take-take, get_or-take, get_or-drop}
+use lib.Seq.{length-take-le, take_at, drop_at, set_at, drop-cons, drop-drop, take-take, get_or-take, get_or-drop, paste}
 use borrow.Rule.Slice.PartMut.{Post-is}
 use Rattle.model.specs.Lists.{words_below}
 use Rattle.model.specs.Entries.{row_at, row_words, rows_below, with_stretch}
@@ -104,14 +104,13 @@ module _ (from to : ℕ) (w : List ℕ) where
   part_length len h = length-take-le len (drop from w) (omega (arith, length-drop from w))
 
   -- words copied from what stands in front
-  pub part-copied : (len : ℕ) {front x behind : List ℕ} → from + len ≤ to → to + len ≤ length w → front ≡ take to w → behind ≡ drop to w → x ≡ take (from + len - from) (drop from front)
-      → front ++ (x ++ drop len behind) ≡ onto to (part from len w) w
+  pub part-copied : (len : ℕ) → from + len ≤ to → to + len ≤ length w → paste w to (drop from w) (from + len - from) ≡ onto to (part from len w) w
   unfolding onto
-  part-copied len {front} {x} {behind} h k f b e =
+  part-copied len h k =
       let n : from + len - from ≡ len = omega arith in
-      let p : x ≡ part from len w = e ∙ ap (λ (i : ℕ). take i (drop from front)) n ∙ ap (part from len) f ∙ part-front from len to w h in
-      ap₂ (λ (u v : List ℕ). u ++ (v ++ drop len behind)) f p
-      ∙ ap (λ (u : List ℕ). take to w ++ (part from len w ++ u)) (ap (drop len) b ∙ drop-drop len to w ∙ ap (λ (i : ℕ). drop (to + i) w) (sym (part_length len (omega arith))))
+      ap (paste w to (drop from w)) n
+      ∙ append_assoc (take to w) (part from len w) (drop (to + len) w)
+      ∙ ap (λ (i : ℕ). take to w ++ (part from len w ++ drop (to + i) w)) (sym (part_length len (omega arith)))
 
   -- rows copied with what the mutation leaves of their phases
   module _ (m : BranchMutation) where

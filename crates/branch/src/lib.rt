@@ -132,8 +132,7 @@ pub fn copy_part(store: &mut [u64], from: usize, to: usize, len: usize)
     requires { (from + len ≤ to) × (to + len ≤ length store.old) }
     ensures { store.new ≡ onto to (part from len store.old) store.old }
 {
-    let (front, behind) = store.split_at_mut(to);
-    behind[..len].copy_from_slice(&front[from..from + len]);
+    store.copy_within(from..from + len, to);
 }
 
 // Rows, copied with the phases of those whose bits are set flipped, the first row's bit lowest.
