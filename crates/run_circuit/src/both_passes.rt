@@ -116,7 +116,9 @@ fn store_room() -> [u64; 100_352] {
     [0u64; 100_352]
 }
 
-// From a fresh sum on, in a store of the length that its size has.
+// From a fresh sum on, in a store of the length that its size has. Not inlined: there is room for a sheet in it, which a run that tries cutoffs
+// does without.
+#[inline(never)]
 fn run_fresh(
     source: &Source,
     name: &[u8],

@@ -53,8 +53,13 @@ impl<'a> Iterator for Given<'a> {
 
     fn next(&mut self) -> Option<u64> {
         let text = self.0;
-        let start = text.iter().position(|b| *b >= b'0')?;
+        let start = text.iter().position(|b| *b >= b'0').unwrap_or(text.len());
         let (_, text) = text.split_at(start);
+        // Where no digit is left, nothing is: it is not looked for again.
+        self.0 = text;
+        if text.is_empty() {
+            return None;
+        }
         let end = text.iter().position(|b| *b < b'0').unwrap_or(text.len());
         let (digits, rest) = text.split_at(end);
         self.0 = rest;

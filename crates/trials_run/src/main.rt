@@ -6,6 +6,8 @@
 // differential/trials_run.py has the cases, and makes both the input and what is to come out.
 #![tactic(auto)]
 
+ghost use Rattle.std.specs.Prelude.{◌≤◌, length};
+
 use model::{Answer, Channel, Header, Size};
 use streams::STDIN_FILENO;
 use test_support::{CALL_WORDS, Given, MOST_CALLS};
@@ -211,15 +213,14 @@ fn tell_words(a: Answer, case: &Case<'_>, store: &[u64], out: &[u64]) {
 
 // ---- the cases
 
-// The calls one by one in another store and output: how many words of these, and of the header, are not as they were left.
-fn compare(
-    h: Header,
-    case: &Case<'_>,
-    store: &[u64],
-    out: &[u64],
-    other_store: &mut [u64],
-    other_out: &mut [u64],
-) {
+// The calls one by one in another store and output of the same lengths: how many words of these, and of the header, are not as they were left.
+fn compare(h: Header, case: &Case<'_>, store: &[u64], out: &[u64])
+    requires { (length store.now ≤ 8192) × (length out.now ≤ 1200) }
+{
+    let mut other_store = [LENT; STORE_WORDS];
+    let mut other_out = [LENT; OUTPUT_WORDS];
+    let other_store = &mut other_store[..store.len()];
+    let other_out = &mut other_out[..out.len()];
     test_support::text(b", one by one");
     let other = case.one_by_one(other_store, other_out);
     test_support::number(differing(out, other_out));
@@ -228,14 +229,10 @@ fn compare(
     test_support::text(b"\n");
 }
 
-fn run_case(
-    place: u64,
-    case: &Case<'_>,
-    store: &mut [u64],
-    out: &mut [u64],
-    other_store: &mut [u64],
-    other_out: &mut [u64],
-) {
+// What is compared is lent only once the case was accepted.
+fn run_case(place: u64, case: &Case<'_>, store: &mut [u64], out: &mut [u64])
+    requires { (length store.old ≤ 8192) × (length out.old ≤ 1200) }
+{
     let a = trials::try_cutoffs(
         case.size,
         case.threshold,
@@ -252,11 +249,11 @@ fn run_case(
         return;
     }
     tell_behind(a, store, out);
-    compare(a.header, case, store, out, other_store, other_out);
+    compare(a.header, case, store, out);
     tell_words(a, case, store, out);
 }
 
-// With the words that are lent, of which there are two lots.
+// With the words that are lent.
 fn lend(place: u64, item: &[u64; 18], calls: &[u64]) {
     let len = item[5] as usize;
     let room = item[6] as usize;
@@ -267,16 +264,12 @@ fn lend(place: u64, item: &[u64; 18], calls: &[u64]) {
     }
     let mut store = [LENT; STORE_WORDS];
     let mut out = [LENT; OUTPUT_WORDS];
-    let mut other_store = [LENT; STORE_WORDS];
-    let mut other_out = [LENT; OUTPUT_WORDS];
     let cutoffs = cutoffs_in(item);
     run_case(
         place,
         &case_of(item, calls, &cutoffs[0..tried]),
         &mut store[0..len],
         &mut out[0..room],
-        &mut other_store[0..len],
-        &mut other_out[0..room],
     );
 }
 
