@@ -1,4 +1,5 @@
 pub mod Matched
 pub mod Rates
+pub mod Counts
 pub mod Copies
 pub mod Outgrowing

@@ -1,4 +1,5 @@
 pub mod Examples
+mod Keys
 mod Reading
 mod RunEnds
 mod SameBytes

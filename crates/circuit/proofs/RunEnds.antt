@@ -7,7 +7,9 @@ use native.Mathlib.Numerals.{add-one}
 use native.Mathlib.Omega.{arith}
 use lib.ListN.{length, drop, get_or, drop_of_length-le, length-drop}
 use lib.Seq.{drop-cons}
-use Rattle.circuit.specs.Runs.{run_length, run_end, is_end}
+use lib.Dec.{eqb, ltb}
+use borrow.Author.Tests.{ltb-true}
+use Rattle.circuit.specs.Runs.{run_length, run_end, is_end, is_at}
 
 shorter : (t : Bool) (n m : ℕ) → n ≤ m → cond t (suc n) 0 ≤ suc m
 shorter true n m h = omega arith
@@ -50,6 +52,10 @@ module _ (p : ℕ → Bool) (text : List ℕ) (i : ℕ) where
 pub both_first : (a b : Bool) → (a && b) ≡ true → a ≡ true
 both_first true b h = refl
 both_first false b h = h
+
+pub at-inside : (text : List ℕ) (at b : ℕ) → is_at text at b ≡ true → at < length text
+unfolding is_at
+at-inside text at b h = ltb-true at (length text) (both_first (ltb at (length text)) (eqb (get_or text at 0) b) h)
 
 pub not_end : (text : List ℕ) (at : ℕ) → is_end text at ≡ false → at < length text
 unfolding is_end

@@ -1,1 +1,1 @@
-mod Marked
+pub mod Marked

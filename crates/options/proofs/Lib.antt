@@ -1,1 +1,1 @@
-mod Values
+pub mod Values
