@@ -70,7 +70,7 @@ extern "C" {
 #define TABLEAU_SUM_STEP_RATES 3
 
 /*
- * Every call takes less stack than this. Measured by examples/c/stack.c, as gcc builds it: at most 27,608 bytes, by the trials of cutoffs; by a
+ * Every call takes less stack than this. Measured by examples/c/stack.c, as gcc builds it: at most 27,688 bytes, by the trials of cutoffs; by a
  * list 24,936, by a reset itself 23,416. (Where the dynamic linker has to find memcpy in the middle of a call it takes more: some 3,150 bytes, in
  * an earlier measurement.)
  */

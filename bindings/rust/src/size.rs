@@ -6,7 +6,7 @@ pub const MAX_COEFFICIENTS: usize = 24;
 /// The most entries that a sum can have room for.
 pub const MAX_CAPACITY: usize = 256;
 
-/// Every call of the library takes less stack than this. Measured by the repository's `examples/c/stack.c`: at most 27,608 bytes, by
+/// Every call of the library takes less stack than this. Measured by the repository's `examples/c/stack.c`: at most 27,688 bytes, by
 /// trials of cutoffs.
 pub const STACK_BYTES: usize = 36864;
 
